@@ -1,0 +1,5 @@
+pub mod Printable
+pub mod Several
+pub mod Parts
+pub mod Keys
+pub mod Causes

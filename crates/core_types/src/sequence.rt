@@ -1,0 +1,77 @@
+//! A list that grows at its end, seen as the list of its items.
+
+ghost use Rattle.std.specs.Prelude.{◌≡◌, ◌==◌, ◌++◌, List, [], ◌∷◌, length, OnOk, OnErr};
+
+use crate::NoMemory;
+use std::alloc::Global;
+use std::marker::Model;
+
+/// Items in the order in which they were added.
+#[derive(Debug, Drop)]
+pub struct Sequence<T> {
+    items: Vec<T>,
+}
+
+impl<T> Model for Sequence<T> {
+    ghost Value = { List T };
+
+    ghost view = { λ s. s.items.items };
+}
+
+impl<T> Sequence<T> {
+    /// No items. Takes no memory.
+    pub fn new(alloc: Global) -> Sequence<T>
+        ensures empty { result ≡ [] }
+    {
+        Sequence {
+            items: Vec::new(alloc),
+        }
+    }
+
+    /// The items of the vector, without a copy.
+    pub fn from_vec(items: Vec<T>) -> Sequence<T>
+        ensures items { result ≡ items.items }
+    {
+        Sequence { items }
+    }
+
+    /// The items as a vector, without a copy.
+    pub fn into_vec(self) -> Vec<T>
+        ensures items { result.items ≡ self }
+    {
+        let Sequence { items } = self;
+        items
+    }
+
+    /// The number of items.
+    pub fn len(&self) -> usize
+        ensures length { result ≡ length self.now }
+    {
+        self.items.len()
+    }
+
+    /// Whether there is no item.
+    pub fn is_empty(&self) -> bool
+        ensures empty { result ≡ (length self.now == 0) }
+    {
+        self.items.is_empty()
+    }
+
+    /// The items.
+    pub fn as_slice(&self) -> &[T]
+        ensures items { result.now ≡ self.now }
+    {
+        &self.items
+    }
+}
+
+impl<T: Drop> Sequence<T> {
+    /// Adds one item at the end. On an `Err` the item is dropped.
+    pub fn push(&mut self, item: T) -> Result<(), NoMemory>
+        ensures ok { OnOk result (self.new ≡ self.old ++ item ∷ []) }
+        ensures err { OnErr result (self.new ≡ self.old) }
+    {
+        self.items.push(item)?;
+        Ok(())
+    }
+}
