@@ -1,0 +1,52 @@
+-- What a directory reads as, and how a call changes it.
+use Rattle.std.specs.Prelude.{◌≡◌, ℕ, List, [], ◌++◌, ⊤, Option, Some, None, IsSome}
+use Rattle.std.specs.Option.{option_map}
+use Rattle.disk_model.specs.declared.file_name.FileName.{FileName}
+use Rattle.disk_model.specs.declared.file_name.FileName.TheVariants.{Log, LogTemp, Dump, DumpTemp}
+
+-- the bytes of each of the four files, where it is there
+pub record Files : Type 0 where
+  pub log : Option (List ℕ)
+  pub log_temp : Option (List ℕ)
+  pub dump : Option (List ℕ)
+  pub dump_temp : Option (List ℕ)
+
+-- no file is there
+abbrev pub no_files : Files
+no_files = record { log = None; log_temp = None; dump = None; dump_temp = None }
+
+-- what a read of the name gives
+abbrev pub file : FileName → Files → Option (List ℕ)
+file Log files = files.log
+file LogTemp files = files.log_temp
+file Dump files = files.dump
+file DumpTemp files = files.dump_temp
+
+-- the same files, but for one that has these bytes
+abbrev pub with_file : FileName → List ℕ → Files → Files
+with_file Log bytes files = record files { log = Some bytes }
+with_file LogTemp bytes files = record files { log_temp = Some bytes }
+with_file Dump bytes files = record files { dump = Some bytes }
+with_file DumpTemp bytes files = record files { dump_temp = Some bytes }
+
+-- the same files, but for one that has these bytes at its end
+abbrev pub with_appended : FileName → List ℕ → Files → Files
+with_appended Log bytes files = record files { log = option_map (λ old. old ++ bytes) files.log }
+with_appended LogTemp bytes files = record files { log_temp = option_map (λ old. old ++ bytes) files.log_temp }
+with_appended Dump bytes files = record files { dump = option_map (λ old. old ++ bytes) files.dump }
+with_appended DumpTemp bytes files = record files { dump_temp = option_map (λ old. old ++ bytes) files.dump_temp }
+
+-- Where a directory tells its files it goes on telling them, and they became this.
+abbrev pub Become : (Files → Files) → Option Files → Option Files → Type 0
+Become change None new = ⊤
+Become change (Some old) None = ⊥
+Become change (Some old) (Some new) = new ≡ change old
+
+-- they stayed as they were
+abbrev pub Stay : Option Files → Option Files → Type 0
+Stay old new = Become (λ files. files) old new
+
+-- the file is there, where the directory tells
+abbrev pub IsThere : FileName → Option Files → Type 0
+IsThere name None = ⊤
+IsThere name (Some files) = IsSome (file name files)

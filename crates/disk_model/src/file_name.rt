@@ -1,0 +1,14 @@
+//! The files of a directory.
+
+/// One of the four files that a directory may hold.
+#[derive(Clone, Copy, Debug, PartialEq, Eq)]
+pub enum FileName {
+    /// `appendonly.aof`, the append-only log.
+    Log,
+    /// `temp-rewriteaof.aof`, a log that is being rewritten.
+    LogTemp,
+    /// `dump.rdb`, a snapshot.
+    Dump,
+    /// `temp.rdb`, a snapshot that is being written.
+    DumpTemp,
+}
