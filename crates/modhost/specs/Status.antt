@@ -1,0 +1,14 @@
+-- How a run ends, as the status of the process.
+use Rattle.std.specs.Prelude.{ℕ}
+use Rattle.modhost.specs.declared.status.Status.{Status}
+use Rattle.modhost.specs.declared.status.Status.TheVariants.{Done, Usage, DirFault, ReadFault, WriteFault, Memory, TooLong, NotBuilt}
+
+abbrev pub code_of : Status → ℕ
+code_of Done = 0
+code_of (Usage place) = 1
+code_of DirFault = 3
+code_of ReadFault = 4
+code_of WriteFault = 5
+code_of Memory = 6
+code_of TooLong = 10
+code_of (NotBuilt what) = 13
