@@ -20,6 +20,7 @@ pub(crate) enum Header {
 }
 
 /// What stands at the front of the bytes, where their first CR was looked for and the search ended.
+#[tactic(auto, using(crate::proofs::ReaderHeaders::judging))]
 pub(crate) fn judge(bytes: &[u8], end: usize, mark: u8, least: u64, most: u64) -> Header
     requires searched { IsSearchEnd end bytes.now }
     requires mark { 13 < mark }

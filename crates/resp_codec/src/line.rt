@@ -26,10 +26,12 @@ pub(crate) fn find_return(bytes: &[u8], searched: usize) -> usize
     ensures { IsSearchEnd result bytes.now }
 {
     let end = bytes.len().min(FARTHEST);
-    match bytes[searched..end].iter().position(|byte| *byte == CR) {
-        Some(place) => searched + place,
-        None => end,
+    for place in searched..end {
+        if bytes[place] == CR {
+            return place;
+        }
     }
+    end
 }
 
 /// What stands at a place where CR LF is due.

@@ -1,0 +1,2 @@
+pub mod ReaderNumbers
+pub mod ReaderHeaders
