@@ -43,7 +43,7 @@ HasHeader-header mark n more visible small =
       feed = grind (arith, common_steps);
     }
 
-HasHeader-from : (mark n : ℕ) (bytes more : List ℕ) → 13 < mark → n < 2 ^ 63 → bytes ≡ header mark n ++ more → HasHeader mark n bytes
+pub HasHeader-from : (mark n : ℕ) (bytes more : List ℕ) → 13 < mark → n < 2 ^ 63 → bytes ≡ header mark n ++ more → HasHeader mark n bytes
 HasHeader-from mark n bytes more visible small e = rw e (HasHeader-header mark n more visible small)
 
 -- what `all` begins with is these bytes

@@ -1,7 +1,6 @@
 //! One request after the other, by steps.
 
-ghost use Rattle.std.specs.Prelude.{◌≡◌, ◌<◌, ◌≤◌, ◌+◌, ◌^◌, ◌++◌, ℕ, List, [], All, length, Ok, OnOk, OnErr, IfOk};
-ghost use Rattle.resp_codec.specs.Spelling.{IsWord};
+ghost use Rattle.std.specs.Prelude.{◌≡◌, ◌<◌, ◌≤◌, ◌+◌, ◌^◌, ◌++◌, ℕ, List, [], length, Ok, OnOk, OnErr, IfOk};
 ghost use Rattle.resp_codec.specs.Stream.{BeginsNone, NeverBegins, Takes};
 ghost use Rattle.resp_codec.specs.Underway.{begun, IsDue, IsDue-prop};
 ghost use Rattle.resp_codec.specs.Reader.{IsSameUnlessTaken};
@@ -56,8 +55,6 @@ pub(crate) struct Reading {
     count: usize,
     words: Args,
     input: Input,
-    ghost few: { count ≤ 1048576 },
-    ghost each: { All IsWord words },
     ghost due: { IsDue stage count words } by { IsDue-prop stage count words },
     ghost read_is: { read ≡ length (begun stage count words) },
     ghost small: { passed + read + length input < 2 ^ 64 },
