@@ -2,9 +2,9 @@
 use Rattle.std.proofs.Common.{◌≡◌, ℕ, ◌+◌, ◌<◌, ◌≤◌, List, [], ◌∷◌, ◌++◌, length, take, drop, refl, sym, ap, ◌∙◌, append_assoc, arith, get_or, inl, inr}
 use Rattle.std.specs.List.{flat_map, AllByRecursion}
 use Rattle.std.proofs.lemmas.Grind.{common_steps}
-use Rattle.std.proofs.lemmas.List.{length-append, get_or_append_left, get_or_at}
+use Rattle.std.proofs.lemmas.List.{length-append, length-take, length-take-le, length-drop, length_push, get_or_append_left, get_or_at, take-append-drop, drop_more, flat_map_more}
 use Rattle.resp_codec.specs.Spelling.{crlf, bulk, multibulk, IsWord, IsRequest}
-use Rattle.resp_codec.specs.Stream.{BeginsNone, NeverBegins}
+use Rattle.resp_codec.specs.Stream.{Stream, BeginsNone, NeverBegins, Takes}
 use Rattle.resp_codec.specs.Header.{header, BeginsNoHeader, NeverBeginsHeader}
 use Rattle.resp_codec.specs.declared.line.LineEnd.TheVariants as found
 use Rattle.resp_codec.specs.Line.{IsFound}
@@ -69,3 +69,51 @@ pub NeverBegins-word : (count len : ℕ) (done : List (List ℕ)) (tail : List �
 NeverBegins-word count len done tail begun small missing after words more request e =
     let due = due_word count len done words (tail ++ after) more begun small request (sym (append_assoc (header 42 count ++ flat_map bulk done ++ header 36 len) tail after) ∙ e) in
     no_end len tail after due missing
+
+-- what a part that does not come says of the stream
+pub ruleset parts = (BeginsNone-length, NeverBegins-length, BeginsNone-word, NeverBegins-word)
+
+line_there : (tail : List ℕ) (len : ℕ) → IsFound tail len found.There → tail ≡ take len tail ++ crlf ++ drop (len + 2) tail
+line_there tail len there =
+    grind (arith, common_steps, take-append-drop len tail, drop_more tail len 0, drop_more tail (len + 1) 0, there.0, there.1, there.2)
+
+push_word : (count : ℕ) (done : List (List ℕ)) (w more : List ℕ) → header 42 count ++ flat_map bulk done ++ header 36 (length w) ++ (w ++ crlf ++ more) ≡ header 42 count ++ flat_map bulk (done ++ w ∷ []) ++ more
+push_word count done w more =
+    let front = header 42 count ++ flat_map bulk done in
+    append_assoc front (header 36 (length w)) (w ++ crlf ++ more) ∙ ap (λ (t : List ℕ). front ++ t) (sym (append_assoc (header 36 (length w)) (w ++ crlf) more)) ∙ sym (append_assoc front (bulk w) more)
+    ∙ ap (λ (t : List ℕ). t ++ more) (flat_map_more bulk (header 42 count) done w)
+
+-- a whole word goes from what was not read to what was
+pub begun-push : (count len : ℕ) (done : List (List ℕ)) (tail : List ℕ) → IsFound tail len found.There →
+    header 42 count ++ flat_map bulk done ++ header 36 len ++ tail ≡ header 42 count ++ flat_map bulk (done ++ take len tail ∷ []) ++ drop (len + 2) tail
+begun-push count len done tail there =
+    let front = header 42 count ++ flat_map bulk done in
+    let long : length (take len tail) ≡ len = length-take-le len tail (omega (arith, there.0)) in
+    ap (λ (k : ℕ). front ++ header 36 k ++ tail) (sym long) ∙ ap (λ (t : List ℕ). front ++ header 36 (length (take len tail)) ++ t) (line_there tail len there)
+    ∙ push_word count done (take len tail) (drop (len + 2) tail)
+
+pub AllByRecursion-push : (done : List (List ℕ)) (w : List ℕ) → AllByRecursion IsWord done → IsWord w → AllByRecursion IsWord (done ++ w ∷ [])
+AllByRecursion-push [] w each small = (small, tt)
+AllByRecursion-push (x ∷ done) w each small = (each.0, AllByRecursion-push done w each.1 small)
+
+abbrev pub stream : ℕ → List ℕ → Stream
+stream passed rest = record { passed = passed; rest = rest }
+
+-- with its last word a request is whole
+pub takes_last : (passed read count len : ℕ) (done : List (List ℕ)) (tail : List ℕ) → IsBegun count done → len ≤ 536870912 → IsFound tail len found.There →
+    read ≡ length (header 42 count ++ flat_map bulk done ++ header 36 len) → count ≤ length (done ++ take len tail ∷ []) →
+    Takes (stream passed (header 42 count ++ flat_map bulk done ++ header 36 len ++ tail)) (stream (passed + (read + (len + 2))) (drop (len + 2) tail)) (done ++ take len tail ∷ [])
+takes_last passed read count len done tail begun small there read_is whole =
+    let words = done ++ take len tail ∷ [] in
+    let count_is : count ≡ length words = omega (arith, begun.more, length_push done (take len tail)) in
+    let parted : header 42 count ++ flat_map bulk done ++ header 36 len ++ tail ≡ multibulk words ++ drop (len + 2) tail =
+    begun-push count len done tail there ∙ ap (λ (k : ℕ). header 42 k ++ flat_map bulk words ++ drop (len + 2) tail) count_is in
+    record {
+      request = record {
+        some = omega (arith, begun.more);
+        few = omega (arith, begun.few);
+        each = AllByRecursion-push done (take len tail) begun.each (omega (arith, length-take len tail));
+      };
+      rest = parted;
+      passed = omega (arith, there.0, ap (λ (bytes : List ℕ). length bytes) parted, length-append (header 42 count ++ flat_map bulk done ++ header 36 len) tail, length-append (multibulk words) (drop (len + 2) tail), length-drop (len + 2) tail);
+    }

@@ -81,6 +81,7 @@ impl Reader {
 }
 
 /// No request begins another, so a stream of requests has one reading.
+#[tactic(auto, using(crate::proofs::ReaderWords::requests_cancel))]
 pub fn one_reading()
     ensures { (v w : List (List ℕ)) (a b : List ℕ) → IsRequest v → IsRequest w
         → multibulk v ++ a ≡ multibulk w ++ b → (v ≡ w) × (a ≡ b) }

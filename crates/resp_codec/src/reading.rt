@@ -144,6 +144,7 @@ impl Reading {
         }
     }
 
+    #[tactic(auto, using(crate::proofs::ReaderSteps::parts))]
     fn read_length(&mut self) -> Step
         requires { self.old.stage ≡ Stage.Length }
         ensures { Steps self.old self.new result }
@@ -160,6 +161,7 @@ impl Reading {
         }
     }
 
+    #[tactic(auto, using(crate::proofs::ReaderSteps::parts))]
     fn read_word(&mut self, length: usize) -> Result<Step, NoMemory>
         requires { self.old.stage ≡ Stage.Word length }
         ensures ok { IfOk result (Steps self.old self.new) }
