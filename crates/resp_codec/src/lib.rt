@@ -8,8 +8,14 @@
 //! finished. Writing is linear, and a decimal is written without memory of its own.
 #![tactic(auto)]
 
+mod fault;
+mod header;
+mod input;
+mod line;
+mod number;
 mod reader;
-mod writer;
+mod reading;
+// mod writer;
 
 pub use reader::{Got, Reader, one_reading};
-pub use writer::{write_reply, write_request};
+// pub use writer::{write_reply, write_request};

@@ -1,0 +1,4 @@
+pub mod ReaderNumbers
+pub mod ReaderHeaders
+pub mod ReaderWords
+pub mod ReaderSteps
