@@ -8,8 +8,9 @@
 //! finished. Writing is linear, and a decimal is written without memory of its own.
 #![tactic(auto)]
 
-mod reader;
+mod decimal;
+// mod reader;
 mod writer;
 
-pub use reader::{Got, Reader, one_reading};
+// pub use reader::{Got, Reader, one_reading};
 pub use writer::{write_reply, write_request};
