@@ -3,50 +3,44 @@ use core_types::{Blob, Replies, Reply, Sequence};
 use std::alloc::Global;
 use std::test::Fail;
 
-// The text of a reply, behind one byte that stood in the buffer before.
-fn sent(alloc: Global, reply: &Reply) -> Result<Blob, Fail> {
+// Whether the reply is written as this text, behind a byte that stood in the buffer before.
+fn is_written(alloc: Global, reply: &Reply, text: &[u8]) -> Result<bool, Fail> {
     let mut out = Blob::from_slice(alloc, b"~")?;
     write_reply(&mut out, reply)?;
-    Ok(out)
+    Ok(out.as_slice() == text)
 }
 
-// Each kind of reply, and a request, as RESP2 spells it.
+// Each kind of reply as RESP2 spells it.
 #[test]
 fn ample(rt: HostRuntime) -> Result<(), Fail> {
     let alloc = rt.alloc();
     let status = Reply::simple(alloc, b"OK")?;
-    assert_eq!(rt; sent(alloc, &status)?.as_slice(), b"~+OK\r\n".as_slice());
+    assert!(rt; is_written(alloc, &status, b"~+OK\r\n")?);
     let error = Reply::error(alloc, b"ERR no\nwhere")?;
-    assert_eq!(rt;
-        sent(alloc, &error)?.as_slice(),
-        b"~-ERR no?where\r\n".as_slice()
-    );
+    assert!(rt; is_written(alloc, &error, b"~-ERR no?where\r\n")?);
     let bulk = Reply::Bulk(Blob::from_slice(alloc, b"a\r\n\0 value")?);
-    assert_eq!(rt;
-        sent(alloc, &bulk)?.as_slice(),
-        b"~$10\r\na\r\n\0 value\r\n".as_slice()
-    );
+    assert!(rt; is_written(alloc, &bulk, b"~$10\r\na\r\n\0 value\r\n")?);
     let empty = Reply::Bulk(Blob::new(alloc));
-    assert_eq!(rt; sent(alloc, &empty)?.as_slice(), b"~$0\r\n\r\n".as_slice());
-    assert_eq!(rt;
-        sent(alloc, &Reply::Null)?.as_slice(),
-        b"~$-1\r\n".as_slice()
-    );
-    assert_eq!(rt;
-        sent(alloc, &Reply::NullArray)?.as_slice(),
-        b"~*-1\r\n".as_slice()
-    );
+    assert!(rt; is_written(alloc, &empty, b"~$0\r\n\r\n")?);
+    assert!(rt; is_written(alloc, &Reply::Null, b"~$-1\r\n")?);
+    assert!(rt; is_written(alloc, &Reply::NullArray, b"~*-1\r\n")?);
     let none = Reply::Array(Replies::new(alloc));
-    assert_eq!(rt; sent(alloc, &none)?.as_slice(), b"~*0\r\n".as_slice());
+    assert!(rt; is_written(alloc, &none, b"~*0\r\n")?);
+    Ok(())
+}
 
+// A request as a client sends it, after what the buffer held.
+#[test]
+fn requests_are_spelled(rt: HostRuntime) -> Result<(), Fail> {
+    let alloc = rt.alloc();
     let mut words = Sequence::new(alloc);
     words.push(Blob::from_slice(alloc, b"SET")?)?;
     words.push(Blob::new(alloc))?;
     words.push(Blob::from_slice(alloc, b"twelve bytes")?)?;
     let mut out = Blob::from_slice(alloc, b"~")?;
     write_request(&mut out, &words)?;
-    let text = b"~*3\r\n$3\r\nSET\r\n$0\r\n\r\n$12\r\ntwelve bytes\r\n".as_slice();
-    assert_eq!(rt; out.as_slice(), text);
+    let text = b"~*3\r\n$3\r\nSET\r\n$0\r\n\r\n$12\r\ntwelve bytes\r\n";
+    assert_eq!(rt; out.as_slice(), text.as_slice());
     Ok(())
 }
 
@@ -54,22 +48,14 @@ fn ample(rt: HostRuntime) -> Result<(), Fail> {
 #[test]
 fn numbers_are_spelled(rt: HostRuntime) -> Result<(), Fail> {
     let alloc = rt.alloc();
-    let least = sent(alloc, &Reply::Int(i64::MIN))?;
-    assert_eq!(rt; least.as_slice(), b"~:-9223372036854775808\r\n".as_slice());
-    let most = sent(alloc, &Reply::Int(i64::MAX))?;
-    assert_eq!(rt; most.as_slice(), b"~:9223372036854775807\r\n".as_slice());
-    assert_eq!(rt;
-        sent(alloc, &Reply::Int(0))?.as_slice(),
-        b"~:0\r\n".as_slice()
-    );
-    assert_eq!(rt;
-        sent(alloc, &Reply::Int(-1))?.as_slice(),
-        b"~:-1\r\n".as_slice()
-    );
-    assert_eq!(rt;
-        sent(alloc, &Reply::Int(-10))?.as_slice(),
-        b"~:-10\r\n".as_slice()
-    );
+    let least = Reply::Int(i64::MIN);
+    assert!(rt; is_written(alloc, &least, b"~:-9223372036854775808\r\n")?);
+    let most = Reply::Int(i64::MAX);
+    assert!(rt; is_written(alloc, &most, b"~:9223372036854775807\r\n")?);
+    assert!(rt; is_written(alloc, &Reply::Int(0), b"~:0\r\n")?);
+    assert!(rt; is_written(alloc, &Reply::Int(-1), b"~:-1\r\n")?);
+    assert!(rt; is_written(alloc, &Reply::Int(9), b"~:9\r\n")?);
+    assert!(rt; is_written(alloc, &Reply::Int(-10), b"~:-10\r\n")?);
     Ok(())
 }
 
@@ -86,7 +72,7 @@ fn arrays_are_spelled(rt: HostRuntime) -> Result<(), Fail> {
     outer.push(Reply::simple(alloc, b"QUEUED")?)?;
     outer.push(Reply::error(alloc, b"WRONGTYPE")?)?;
     outer.push(Reply::Bulk(Blob::from_slice(alloc, b"v")?))?;
-    let text = b"~*4\r\n*3\r\n:7\r\n*-1\r\n$-1\r\n+QUEUED\r\n-WRONGTYPE\r\n$1\r\nv\r\n".as_slice();
-    assert_eq!(rt; sent(alloc, &Reply::Array(outer))?.as_slice(), text);
+    let text = b"~*4\r\n*3\r\n:7\r\n*-1\r\n$-1\r\n+QUEUED\r\n-WRONGTYPE\r\n$1\r\nv\r\n";
+    assert!(rt; is_written(alloc, &Reply::Array(outer), text)?);
     Ok(())
 }
