@@ -1,7 +1,6 @@
 use Rattle.std.proofs.Common.{arith}
-use Rattle.std.proofs.lemmas.Grind.{common_steps}
 use Rattle.effect_log.proofs.UnitTexts.{multi_sent, exec_sent, unit_several}
 use Rattle.effect_log.proofs.unit.unit_text.Goals as goal
 
 pub returns : goal.returns
-returns c = grind (arith, common_steps, multi_sent, exec_sent, unit_several c.args.effects.now)
+returns c = grind (arith, multi_sent, exec_sent, unit_several c.args.effects.now)
