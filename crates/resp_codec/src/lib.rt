@@ -9,8 +9,8 @@
 #![tactic(auto)]
 
 mod decimal;
-// mod reader;
+mod reader;
 mod writer;
 
-// pub use reader::{Got, Reader, one_reading};
+pub use reader::{Got, Reader, one_reading};
 pub use writer::{write_reply, write_request};
