@@ -8,6 +8,7 @@
 //! finished. Writing is linear, and a decimal is written without memory of its own.
 #![tactic(auto)]
 
+mod decimal;
 mod fault;
 mod header;
 mod input;
@@ -15,7 +16,7 @@ mod line;
 mod number;
 mod reader;
 mod reading;
-// mod writer;
+mod writer;
 
 pub use reader::{Got, Reader, one_reading};
-// pub use writer::{write_reply, write_request};
+pub use writer::{write_reply, write_request};
