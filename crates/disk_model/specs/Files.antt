@@ -36,15 +36,13 @@ with_appended LogTemp bytes files = record files { log_temp = option_map (λ old
 with_appended Dump bytes files = record files { dump = option_map (λ old. old ++ bytes) files.dump }
 with_appended DumpTemp bytes files = record files { dump_temp = option_map (λ old. old ++ bytes) files.dump_temp }
 
--- Where a directory tells its files it goes on telling them, and they became this.
+-- The files became this. A directory that tells its files goes on telling them, and one that doesn't goes on telling nothing.
 abbrev pub Become : (Files → Files) → Option Files → Option Files → Type 0
-Become change None new = ⊤
-Become change (Some old) None = ⊥
-Become change (Some old) (Some new) = new ≡ change old
+Become change old new = new ≡ option_map change old
 
 -- they stayed as they were
 abbrev pub Stay : Option Files → Option Files → Type 0
-Stay old new = Become (λ files. files) old new
+Stay old new = new ≡ old
 
 -- the file is there, where the directory tells
 abbrev pub IsThere : FileName → Option Files → Type 0

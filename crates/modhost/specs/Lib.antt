@@ -3,4 +3,8 @@ pub mod Does
 pub mod Run
 pub mod Words
 pub mod Status
+pub mod Stops
 pub mod Pipe
+pub mod Serving
+pub mod Ending
+pub mod Outcome

@@ -40,9 +40,8 @@ pub record IsUntouched (o : Outside) : Type 0 where
   pub sent : Keeps o.sent_before o.sent
   pub files : Stay o.files_before o.files
 
--- These requests were served: their replies were sent and their units are the log.
+-- These requests were served: their replies were sent, and the log holds their units and nothing else.
 pub record Serves (o : Outside) (requests : List (List (List ℕ))) (rest : List ℕ) : Type 0 where
-  pub fresh : IsFresh o.files_before
   pub read : IfSome o.input (λ input. Reads input requests rest)
   pub sent : Appends o.sent_before o.sent (replies requests no_keys)
   pub logged : Become (with_file Log (units requests no_keys)) o.files_before o.files
@@ -71,7 +70,6 @@ pub record ServesUpTo (o : Outside) : Type 0 where
 pub record SendsPart (o : Outside) : Type 0 where
   pub requests : List (List (List ℕ))
   pub rest : List ℕ
-  pub fresh : IsFresh o.files_before
   pub read : IfSome o.input (λ input. Reads input requests rest)
   pub sent : (count : ℕ) × Appends o.sent_before o.sent (take count (replies requests no_keys))
   pub logged : Become (with_file Log (units requests no_keys)) o.files_before o.files
@@ -81,7 +79,6 @@ pub record LogsPart (o : Outside) : Type 0 where
   pub requests : List (List (List ℕ))
   pub next : List (List ℕ)
   pub rest : List ℕ
-  pub fresh : IsFresh o.files_before
   pub read : IfSome o.input (λ input. Reads input (requests ++ next ∷ []) rest)
   pub sent : Appends o.sent_before o.sent (replies requests no_keys)
   pub logged : (count : ℕ) × Become (with_file Log (units requests no_keys
@@ -91,3 +88,7 @@ pub record LogsPart (o : Outside) : Type 0 where
 pub record OpensNot (o : Outside) : Type 0 where
   pub sent : Keeps o.sent_before o.sent
   pub files : Stay o.files_before o.files ⊎ (IsFresh o.files_before × Become (with_file Log []) o.files_before o.files)
+
+-- the input goes on after 2^40 bytes
+abbrev pub IsTooLong : Option (List ℕ) → Type 0
+IsTooLong input = IfSome input (λ bytes. 2 ^ 40 < length bytes)

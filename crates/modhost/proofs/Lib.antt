@@ -1,0 +1,12 @@
+pub mod Pieces
+pub mod Logs
+pub mod Lists
+pub mod Fed
+pub mod Served
+pub mod Stopped
+pub mod Ended
+pub mod Opened
+pub mod StoredKeys
+pub mod Steps
+pub mod KeyCount
+pub mod Loggable

@@ -1,0 +1,52 @@
+//! Which calls of an object in memory fail.
+
+ghost use Rattle.std.specs.Prelude.{◌≡◌, ◌≤◌, IfOk};
+ghost use Rattle.std.specs.Bool.{OnTrue, OnFalse};
+ghost use Rattle.core_types.specs.Causes.{Rose};
+
+use core_types::NoMemory;
+use std::alloc::Global;
+
+/// The calls that fail, by their numbers from 1, and how many of them there were.
+#[derive(Drop)]
+pub struct FaultPlan {
+    fails: Vec<u64>,
+    calls: u64,
+    /// How often a call failed. It stands still at the end of 64 bits.
+    pub faults: u64,
+}
+
+impl FaultPlan {
+    /// Fails at the calls of these numbers.
+    pub fn new(alloc: Global, fails: &[u64]) -> Result<FaultPlan, NoMemory>
+        ensures none { IfOk result (λ plan. plan.faults ≡ 0) }
+    {
+        Ok(FaultPlan {
+            fails: Vec::from_slice(alloc, fails)?,
+            calls: 0,
+            faults: 0,
+        })
+    }
+
+    /// Counts a call, and answers whether it fails.
+    pub fn strikes(&mut self) -> bool
+        ensures later { self.old.faults ≤ self.new.faults }
+        ensures fails { OnTrue result (Rose self.old.faults self.new.faults) }
+        ensures goes_on { OnFalse result (self.new.faults ≡ self.old.faults) }
+    {
+        self.calls = self.calls.saturating_add(1);
+        let fails = self.fails.contains(&self.calls);
+        if fails {
+            self.faults = self.faults.saturating_add(1);
+        }
+        fails
+    }
+
+    /// Counts a fault of a call that was not told to fail.
+    pub fn count_fault(&mut self)
+        ensures later { self.old.faults ≤ self.new.faults }
+        ensures counted { Rose self.old.faults self.new.faults }
+    {
+        self.faults = self.faults.saturating_add(1);
+    }
+}

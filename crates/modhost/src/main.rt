@@ -1,0 +1,31 @@
+//! `modhost`: a keyspace server in the manner of Redis.
+//!
+//! `modhost pipe DIR` reads requests of RESP2 from standard input, serves them in order, writes each reply to
+//! standard output, and appends each change to `appendonly.aof` in DIR, synced before its reply is written.
+//!
+//! All of it is the call `top::modhost`, over any directory, source and sink: its contract says what was
+//! sent and what the log holds at each end, and when each end comes. `main` makes the real ones and calls it.
+//! A request costs O(its bytes), and O(log n) in the number of keys; memory grows with the keys alone.
+#![tactic(auto)]
+
+pub mod command;
+pub mod execute;
+mod fault_plan;
+pub mod host;
+pub mod key_store;
+pub mod memory;
+pub mod pipe;
+mod process;
+pub mod refusal;
+pub mod sink;
+pub mod source;
+pub mod status;
+pub mod top;
+pub mod words;
+
+use std::process::ExitCode;
+
+fn main(rt: HostRuntime) -> ExitCode {
+    let status = process::run(&rt);
+    process::report(&rt, &status)
+}

@@ -1,0 +1,159 @@
+//! A source served to its end, or to QUIT.
+
+ghost use Rattle.std.specs.Prelude.{ℕ, ◌≡◌, ◌≢◌, ◌+◌, ◌^◌, ◌<◌, ◌≤◌, [], length, take, Some, IfSome, IfOk, IfErr, OnOk, OnErr};
+ghost use Rattle.std.specs.Io.KnownBytes.{Appends, Consumes, IsAtEnd};
+ghost use Rattle.core_types.specs.Causes.{HasCause};
+ghost use Rattle.core_types.specs.Keys.{no_keys};
+ghost use Rattle.resp_codec.specs.Spelling.{IsRequest};
+ghost use Rattle.resp_codec.specs.ReplyText.{text};
+ghost use Rattle.effect_log.specs.Unit.{unit};
+ghost use Rattle.disk_model.specs.Files.{file, with_appended, Become, IsThere};
+ghost use Rattle.modhost.specs.Does.{does};
+ghost use Rattle.modhost.specs.Run.{quits};
+ghost use Rattle.modhost.specs.Pipe.{Outside, ServesAll};
+ghost use Rattle.modhost.specs.Serving.{ServeStops, TakeStops, SourceStops, IsEmptyLog};
+
+use crate::host::Host;
+use crate::sink::{Sink, SinkFault};
+use crate::source::Source;
+use crate::status::Status;
+use core_types::{Args, Blob};
+use disk_model::{Dir, FileName};
+use resp_codec::{Got, Reader};
+use std::alloc::Global;
+
+/// How many bytes are read at a time, at the most.
+pub const PIECE: usize = 16_384;
+
+/// How many bytes are read in one run, at the most.
+pub const MAX_INPUT: u64 = 1 << 40;
+
+/// Serves a source over an empty log, and sends each reply once its unit is in the log and synced.
+///
+/// `Ok` is the end of the input, or QUIT. An `Err` says what stopped it: a fault of the directory, the source
+/// or the sink, want of memory, more than 2^40 bytes, or `NotBuilt(2)` where the input goes on with anything
+/// else than a whole multibulk.
+pub fn serve_source<D: Dir, S: Source, K: Sink>(
+    alloc: Global,
+    host: &mut Host<D>,
+    source: &mut S,
+    sink: &mut K,
+) -> Result<(), Status>
+    requires keys { host.old.keys ≡ no_keys }
+    requires log { IsEmptyLog (D.files host.old.dir) }
+    ensures all { OnOk result (ServesAll (record {
+        input = S.left source.old; left = S.left source.new; sent_before = K.got sink.old; sent = K.got sink.new;
+        files_before = D.files host.old.dir; files = D.files host.new.dir })) }
+    ensures stop { IfErr result (λ status. SourceStops status (record {
+        input = S.left source.old; left = S.left source.new; sent_before = K.got sink.old; sent = K.got sink.new;
+        files_before = D.files host.old.dir; files = D.files host.new.dir })
+        (D.faults host.old.dir) (D.faults host.new.dir) (S.faults source.old) (S.faults source.new) (K.faults sink.old) (K.faults sink.new)) }
+{
+    let mut reader = Reader::new(alloc);
+    let mut out = Blob::new(alloc);
+    let mut buffer = [0u8; PIECE];
+    let mut taken = 0u64;
+    'serving: loop {
+        match reader.next()? {
+            Got::Request(words) => {
+                let quits = is_quit(&words);
+                answer(alloc, host, words, &mut out, sink)?;
+                if quits {
+                    return Ok(());
+                }
+            }
+            Got::More => {
+                let count = next_piece(source, &mut buffer, taken)?;
+                if count == 0 {
+                    return at_end(&reader);
+                }
+                reader.feed(&buffer[..count])?;
+                taken += count as u64;
+            }
+            Got::Unread => return Err(Status::NotBuilt(2)),
+        }
+    }
+}
+
+// What an input comes to that ended here: all of it was served, or a rest is no whole request.
+fn at_end(reader: &Reader) -> Result<(), Status>
+    ensures whole { OnOk result (reader.now.rest ≡ []) }
+    ensures cut { IfErr result (λ status. (status ≡ Status.NotBuilt 2) × (reader.now.rest ≢ [])) }
+{
+    if reader.rest() > 0 {
+        return Err(Status::NotBuilt(2));
+    }
+    Ok(())
+}
+
+// Gives the sink all bytes, in as many pieces as it takes.
+fn put_all<K: Sink>(sink: &mut K, bytes: &[u8]) -> Result<(), SinkFault>
+    ensures ok { OnOk result (Appends (K.got sink.old) (K.got sink.new) bytes.now) }
+    ensures err { OnErr result ((count : ℕ) × Appends (K.got sink.old) (K.got sink.new) (take count bytes.now)) }
+    ensures cause { HasCause (K.faults sink.old) (K.faults sink.new) result }
+{
+    let mut done = 0;
+    while done < bytes.len() {
+        let (_, rest) = bytes.split_at(done);
+        done += sink.put(rest)?;
+    }
+    Ok(())
+}
+
+// Serves a request, and then sends its reply. `out` is a place for the text.
+fn answer<D: Dir, K: Sink>(
+    alloc: Global,
+    host: &mut Host<D>,
+    words: Args,
+    out: &mut Blob,
+    sink: &mut K,
+) -> Result<(), Status>
+    requires request { IsRequest words }
+    requires log { IsThere FileName.Log (D.files host.old.dir) }
+    ensures keys { OnOk result (host.new.keys ≡ (does host.old.keys words).keys) }
+    ensures logged { OnOk result (Become (with_appended FileName.Log (unit (does host.old.keys words).effects))
+        (D.files host.old.dir) (D.files host.new.dir)) }
+    ensures sent { OnOk result (Appends (K.got sink.old) (K.got sink.new) (text (does host.old.keys words).reply)) }
+    ensures stop { IfErr result (λ status. ServeStops status (does host.old.keys words)
+        (record { old = D.files host.old.dir; new = D.files host.new.dir; faults_old = D.faults host.old.dir; faults_new = D.faults host.new.dir })
+        (record { old = K.got sink.old; new = K.got sink.new; faults_old = K.faults sink.old; faults_new = K.faults sink.new })) }
+    ensures dir_later { D.faults host.old.dir ≤ D.faults host.new.dir }
+    ensures sink_later { K.faults sink.old ≤ K.faults sink.new }
+{
+    out.truncate(0);
+    host.serve(alloc, words, out)?;
+    put_all(sink, out.as_slice())?;
+    Ok(())
+}
+
+// The next piece of an input of which so many bytes were taken. Nothing comes at its end.
+fn next_piece<S: Source>(source: &mut S, buffer: &mut [u8], taken: u64) -> Result<usize, Status>
+    requires room { 0 < length buffer.old }
+    requires within { taken ≤ 2 ^ 40 }
+    ensures bound { IfOk result (λ count. count ≤ length buffer.new) }
+    ensures within { IfOk result (λ count. taken + count ≤ 2 ^ 40) }
+    ensures bytes { IfOk result (λ count. Consumes (S.left source.old) (S.left source.new) (take count buffer.new)) }
+    ensures end { IfOk result (λ count. count ≡ 0 → IsAtEnd (S.left source.new)) }
+    ensures stop { IfErr result (λ status. TakeStops status
+        (record { old = S.left source.old; new = S.left source.new; faults_old = S.faults source.old; faults_new = S.faults source.new })) }
+    ensures too_long { IfErr result (λ status. status ≡ Status.TooLong → taken ≡ 2 ^ 40) }
+    ensures later { S.faults source.old ≤ S.faults source.new }
+{
+    let room = MAX_INPUT - taken;
+    let wanted = room.clamp(1, buffer.len() as u64) as usize;
+    let count = source.take(&mut buffer[..wanted])?;
+    if count as u64 > room {
+        return Err(Status::TooLong);
+    }
+    Ok(count)
+}
+
+// Whether the words are the one word QUIT.
+fn is_quit(words: &Args) -> bool
+    ensures { result ≡ quits words.now }
+{
+    match words.as_slice() {
+        [name] => name.as_slice().eq_ignore_ascii_case(b"QUIT"),
+        _ => false,
+    }
+}

@@ -1,0 +1,84 @@
+//! The process round the top call: its arguments, its standard streams, and its exit status.
+
+use crate::sink::RealSink;
+use crate::source::RealSource;
+use crate::status::{Status, status_code};
+use crate::top::modhost;
+use core_types::NoMemory;
+use disk_model::RealDir;
+use std::env;
+use std::io;
+use std::process::ExitCode;
+
+const HELP: &str = "\
+modhost: a keyspace server in the manner of Redis
+
+    modhost pipe DIR    serve the requests of standard input (RESP2, whole multibulks) over a new
+                        append-only log in the folder DIR; replies go to standard output
+    modhost --help      print this
+    modhost --version   print the version
+";
+
+const VERSION: &str = "modhost 0.1.0\n";
+
+/// Does what the process was asked to do.
+pub fn run(rt: &HostRuntime) -> Status {
+    match arguments(rt) {
+        Ok(arguments) => run_arguments(rt, &arguments),
+        Err(status) => status,
+    }
+}
+
+/// Says on standard error how the run ended, where it isn't done, and gives the exit status.
+pub fn report(rt: &HostRuntime, status: &Status) -> ExitCode {
+    if *status != Status::Done {
+        // Where standard error is closed, the exit status still tells.
+        let _ = eprintln!(rt; "modhost: {status}");
+    }
+    ExitCode::from(status_code(status))
+}
+
+// The words after the program's name. Words that are no text are a faulty command line.
+fn arguments(rt: &HostRuntime) -> Result<Vec<String>, Status> {
+    match env::args(rt) {
+        Ok(arguments) => Ok(arguments.skip(1).collect(rt.alloc())?),
+        Err(error) if error.kind() == io::ErrorKind::OutOfMemory => Err(Status::Memory),
+        Err(_) => Err(Status::Usage(0)),
+    }
+}
+
+fn run_arguments(rt: &HostRuntime, arguments: &[String]) -> Status {
+    match arguments
+        .iter()
+        .map(|word| word.as_str())
+        .collect::<Vec<&str>>(rt.alloc())
+    {
+        Ok(words) => run_words(rt, &words),
+        Err(_) => Status::Memory,
+    }
+}
+
+fn run_words(rt: &HostRuntime, words: &[&str]) -> Status {
+    match words {
+        ["--help", ..] => print_text(rt, HELP),
+        ["--version", ..] => print_text(rt, VERSION),
+        _ => {
+            let folder = words.get(1).copied().unwrap_or(".");
+            match RealDir::new(*rt, rt.alloc(), folder) {
+                Ok(dir) => {
+                    let mut source = RealSource::new(rt.stdin());
+                    let mut sink = RealSink::new(rt.stdout());
+                    modhost(rt.alloc(), words, dir, &mut source, &mut sink).status
+                }
+                Err(NoMemory) => Status::Memory,
+            }
+        }
+    }
+}
+
+fn print_text(rt: &HostRuntime, text: &str) -> Status {
+    match print!(rt; "{text}") {
+        Ok(()) => Status::Done,
+        Err(_) => Status::WriteFault,
+    }
+}

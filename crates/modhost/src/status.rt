@@ -1,0 +1,119 @@
+//! How a run ends.
+
+ghost use Rattle.std.specs.Prelude.{◌≡◌};
+ghost use Rattle.modhost.specs.Status.{code_of};
+ghost use Rattle.modhost.specs.Stops.{status_of_read};
+ghost use Rattle.modhost.specs.declared.status.Status.TheVariants as status;
+
+use crate::sink::SinkFault;
+use crate::source::SourceFault;
+use core_types::NoMemory;
+use disk_model::{DirFault, ReadAllStop};
+use std::alloc::AllocError;
+use std::fmt;
+
+/// The end of a run, with what caused it.
+#[derive(Clone, Copy, Debug, PartialEq, Eq)]
+pub enum Status {
+    /// The input was served to its end, or to QUIT.
+    Done,
+    /// The words are of no form: the place of the first that none allows, counted from 0, or their number
+    /// where one is missing.
+    Usage(u32),
+    /// The directory failed.
+    DirFault,
+    /// The source failed.
+    ReadFault,
+    /// The sink failed.
+    WriteFault,
+    /// Memory ran out.
+    Memory,
+    /// The input goes on after 2^40 bytes.
+    TooLong,
+    /// What was met is not served yet: 1 for a directory with a log or a dump, 2 for an input that is no
+    /// list of whole multibulks.
+    NotBuilt(u8),
+}
+
+/// The exit status of the process: 0 for `Done`, and a number of its own for each other end.
+pub fn status_code(status: &Status) -> u8
+    ensures code { result ≡ code_of status.now }
+{
+    match status {
+        Status::Done => 0,
+        Status::Usage(_) => 1,
+        Status::DirFault => 3,
+        Status::ReadFault => 4,
+        Status::WriteFault => 5,
+        Status::Memory => 6,
+        Status::TooLong => 10,
+        Status::NotBuilt(_) => 13,
+    }
+}
+
+/// The line of a fault, as it is printed after `modhost: ` on standard error.
+impl fmt::Display for Status {
+    fn fmt<W: fmt::Write>(&self, f: &mut fmt::Formatter<W>) -> fmt::Result {
+        match self {
+            Status::Done => write!(f, "done"),
+            Status::Usage(place) => write!(f, "usage at word {place}"),
+            Status::DirFault => write!(f, "directory fault"),
+            Status::ReadFault => write!(f, "read fault"),
+            Status::WriteFault => write!(f, "write fault"),
+            Status::Memory => write!(f, "out of memory"),
+            Status::TooLong => write!(f, "input too long"),
+            Status::NotBuilt(what) => write!(f, "not built {what}"),
+        }
+    }
+}
+
+impl From<NoMemory> for Status {
+    ghost from_gives = { λ _ end. end ≡ status.Memory };
+
+    fn from(_: NoMemory) -> Status {
+        Status::Memory
+    }
+}
+
+impl From<AllocError> for Status {
+    ghost from_gives = { λ _ end. end ≡ status.Memory };
+
+    fn from(_: AllocError) -> Status {
+        Status::Memory
+    }
+}
+
+impl From<SourceFault> for Status {
+    ghost from_gives = { λ _ end. end ≡ status.ReadFault };
+
+    fn from(_: SourceFault) -> Status {
+        Status::ReadFault
+    }
+}
+
+impl From<SinkFault> for Status {
+    ghost from_gives = { λ _ end. end ≡ status.WriteFault };
+
+    fn from(_: SinkFault) -> Status {
+        Status::WriteFault
+    }
+}
+
+impl From<DirFault> for Status {
+    ghost from_gives = { λ _ end. end ≡ status.DirFault };
+
+    fn from(_: DirFault) -> Status {
+        Status::DirFault
+    }
+}
+
+impl From<ReadAllStop> for Status {
+    ghost from_gives = { λ stop end. end ≡ status_of_read stop };
+
+    fn from(stop: ReadAllStop) -> Status {
+        match stop {
+            ReadAllStop::Dir => Status::DirFault,
+            ReadAllStop::Memory => Status::Memory,
+        }
+    }
+}

@@ -1,0 +1,129 @@
+//! The top call: all that the program does, over any directory, source and sink.
+
+ghost use Rattle.std.specs.Prelude.{ℕ, ◌≡◌, ◌⊎◌, ◌↔◌, Some, map};
+ghost use Rattle.core_types.specs.Causes.{Rose};
+ghost use Rattle.core_types.specs.Keys.{no_keys};
+ghost use Rattle.modhost.specs.Words.{usage_fault};
+ghost use Rattle.modhost.specs.Pipe.{IsFresh, IsTaken, IsUntouched, ServesSome, ServesAll, ServesUpTo, SendsPart, LogsPart, OpensNot, IsTooLong};
+ghost use Rattle.modhost.specs.Ending.{outside, PipeEnds, ServeEnds};
+ghost use Rattle.modhost.specs.Serving.{IsEmptyLog};
+
+use crate::host::{Host, open_log};
+use crate::pipe::serve_source;
+use crate::sink::Sink;
+use crate::source::Source;
+use crate::status::Status;
+use crate::words::{Job, WordsFault, read_words};
+use disk_model::Dir;
+use std::alloc::Global;
+
+/// The end of a run, and the directory that was handed in.
+#[derive(Drop)]
+pub struct Ended<D: Dir> {
+    /// How it ended.
+    pub status: Status,
+    /// The directory.
+    pub dir: D,
+}
+
+/// Does what the words ask for. `pipe DIR` serves the requests of the source in order, over a new log in the
+/// directory: each change is in the log and synced before its reply is given to the sink.
+pub fn modhost<D: Dir, S: Source, K: Sink>(
+    alloc: Global,
+    words: &[&str],
+    dir: D,
+    source: &mut S,
+    sink: &mut K,
+) -> Ended<D>
+    // Faulty words come with their place, and nothing is touched.
+    ensures usage { (place : ℕ) → (result.status ≡ Status.Usage place)
+        ↔ (usage_fault (map (λ word. word.now) words.now) ≡ Some place) }
+    ensures usage_untouched { (place : ℕ) → result.status ≡ Status.Usage place → IsUntouched
+        (outside (S.left source.old) (S.left source.new) (K.got sink.old) (K.got sink.new) (D.files dir) (D.files result.dir)) }
+
+    // All requests were served, to the end of the input or to QUIT: the sink got exactly their replies, and the log is their units.
+    ensures done { result.status ≡ Status.Done → IsFresh (D.files dir) × ServesAll
+        (outside (S.left source.old) (S.left source.new) (K.got sink.old) (K.got sink.new) (D.files dir) (D.files result.dir)) }
+
+    // A log or a dump is there already, and nothing is touched.
+    ensures taken { result.status ≡ Status.NotBuilt 1 → IsTaken (D.files dir) × IsUntouched
+        (outside (S.left source.old) (S.left source.new) (K.got sink.old) (K.got sink.new) (D.files dir) (D.files result.dir)) }
+    // The input goes on with what is no whole multibulk, and all before that place was served.
+    ensures unread { result.status ≡ Status.NotBuilt 2 → IsFresh (D.files dir) × ServesUpTo
+        (outside (S.left source.old) (S.left source.new) (K.got sink.old) (K.got sink.new) (D.files dir) (D.files result.dir)) }
+    ensures not_built { (what : ℕ) → result.status ≡ Status.NotBuilt what → (what ≡ 1) ⊎ (what ≡ 2) }
+
+    // A fault comes only where its object counted one.
+    ensures dir_fault { result.status ≡ Status.DirFault → Rose (D.faults dir) (D.faults result.dir) }
+    ensures read_fault { result.status ≡ Status.ReadFault → Rose (S.faults source.old) (S.faults source.new) }
+    ensures write_fault { result.status ≡ Status.WriteFault → Rose (K.faults sink.old) (K.faults sink.new) }
+    // More than 2^40 bytes came.
+    ensures too_long { result.status ≡ Status.TooLong → IsTooLong (S.left source.old) }
+
+    // Opening failed, or some requests were served and of the next one's unit a front is in the log.
+    ensures dir_fault_leaves { result.status ≡ Status.DirFault → OpensNot
+            (outside (S.left source.old) (S.left source.new) (K.got sink.old) (K.got sink.new) (D.files dir) (D.files result.dir))
+        ⊎ (IsFresh (D.files dir) × LogsPart
+            (outside (S.left source.old) (S.left source.new) (K.got sink.old) (K.got sink.new) (D.files dir) (D.files result.dir))) }
+    // Some requests were served, and of their replies a front was sent.
+    ensures write_fault_leaves { result.status ≡ Status.WriteFault → IsFresh (D.files dir) × SendsPart
+        (outside (S.left source.old) (S.left source.new) (K.got sink.old) (K.got sink.new) (D.files dir) (D.files result.dir)) }
+    // Some requests were served.
+    ensures read_fault_leaves { result.status ≡ Status.ReadFault → IsFresh (D.files dir) × ServesSome
+        (outside (S.left source.old) (S.left source.new) (K.got sink.old) (K.got sink.new) (D.files dir) (D.files result.dir)) }
+    ensures too_long_leaves { result.status ≡ Status.TooLong → IsFresh (D.files dir) × ServesSome
+        (outside (S.left source.old) (S.left source.new) (K.got sink.old) (K.got sink.new) (D.files dir) (D.files result.dir)) }
+    // Nothing was touched, or some requests were served.
+    ensures memory_leaves { result.status ≡ Status.Memory → IsUntouched
+            (outside (S.left source.old) (S.left source.new) (K.got sink.old) (K.got sink.new) (D.files dir) (D.files result.dir))
+        ⊎ (IsFresh (D.files dir) × ServesSome
+            (outside (S.left source.old) (S.left source.new) (K.got sink.old) (K.got sink.new) (D.files dir) (D.files result.dir))) }
+{
+    match read_words(words) {
+        Ok(Job::Pipe) => pipe(alloc, dir, source, sink),
+        Err(WordsFault::Usage(place)) => Ended {
+            status: Status::Usage(place),
+            dir,
+        },
+    }
+}
+
+// Serves the source over a new log in the directory.
+fn pipe<D: Dir, S: Source, K: Sink>(
+    alloc: Global,
+    mut dir: D,
+    source: &mut S,
+    sink: &mut K,
+) -> Ended<D>
+    ensures { PipeEnds result.status
+        (outside (S.left source.old) (S.left source.new) (K.got sink.old) (K.got sink.new) (D.files dir) (D.files result.dir))
+        (D.faults dir) (D.faults result.dir) (S.faults source.old) (S.faults source.new) (K.faults sink.old) (K.faults sink.new) }
+{
+    match open_log(alloc, &mut dir) {
+        Err(status) => Ended { status, dir },
+        Ok(()) => serve(alloc, Host::new(alloc, dir), source, sink),
+    }
+}
+
+// Serves the source over a log that is open.
+fn serve<D: Dir, S: Source, K: Sink>(
+    alloc: Global,
+    mut host: Host<D>,
+    source: &mut S,
+    sink: &mut K,
+) -> Ended<D>
+    requires keys { host.keys ≡ no_keys }
+    requires log { IsEmptyLog (D.files host.dir) }
+    ensures { ServeEnds result.status
+        (outside (S.left source.old) (S.left source.new) (K.got sink.old) (K.got sink.new) (D.files host.dir) (D.files result.dir))
+        (D.faults host.dir) (D.faults result.dir) (S.faults source.old) (S.faults source.new) (K.faults sink.old) (K.faults sink.new) }
+{
+    let served = serve_source(alloc, &mut host, source, sink);
+    let Host { dir, keys } = host;
+    drop(keys);
+    let status = match served {
+        Ok(()) => Status::Done,
+        Err(status) => status,
+    };
+    Ended { status, dir }
+}
