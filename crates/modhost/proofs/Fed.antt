@@ -35,7 +35,7 @@ pub fed_more : (store : Keys) (stream stream' : Stream) (bytes count : ℕ) (pie
     → Progress store stream' (bytes + count) (outside input left' sent0 sent files0 files)
 fed_more store stream stream' bytes count piece input left left' sent0 sent files0 files p c passed rest len within =
     let all : (spelled p.requests ++ stream.rest) ++ piece ≡ spelled p.requests ++ stream'.rest
-      = append_assoc (spelled p.requests) stream.rest piece ∙ ap (λ (r : List ℕ). spelled p.requests ++ r) (sym rest) in
+    = append_assoc (spelled p.requests) stream.rest piece ∙ ap (λ (r : List ℕ). spelled p.requests ++ r) (sym rest) in
     let more : length stream'.rest ≡ length stream.rest + length piece = ap length rest ∙ length-append stream.rest piece in
     record {
       requests = p.requests;

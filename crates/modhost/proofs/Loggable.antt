@@ -14,6 +14,7 @@ use Rattle.modhost.specs.Does.{Step, says, changes, does, run, run_named, wrong_
 abbrev LogsWell : Step → Type 0
 LogsWell step = AllByRecursion IsLoggable step.effects
 
+-- whether DEL removed a key or none
 removed_or_not : (none : Bool) (keys left : Keys) (zero some : Reply) (names : List (List ℕ)) → IsLoggable (record { words = upper_name Del ∷ names })
     → LogsWell (cond none (says keys zero) (changes left some Del names))
 removed_or_not true keys left zero some names loggable = tt
@@ -28,6 +29,7 @@ renamed word name arguments request short opens closes = record {
   closes_none = closes;
 }
 
+-- of a command that was run
 run-loggable : (command : Command) (keys : Keys) (name : List ℕ) (arguments : List (List ℕ)) → IsRequest (name ∷ arguments) → takes command (length arguments + 1) ≡ true
     → LogsWell (run command keys arguments)
 unfolding run removes
@@ -42,6 +44,7 @@ run-loggable Get keys name (key ∷ more) request taken = tt
 run-loggable Del keys name names request taken = removed_or_not _ _ _ _ _ names (renamed (upper_name Del) name names request (omega arith) refl refl)
 run-loggable Quit keys name arguments request taken = tt
 
+-- of one that was run, or refused
 run_named-loggable : (found : Option Command) (keys : Keys) (name : List ℕ) (arguments : List (List ℕ)) → IsRequest (name ∷ arguments) → LogsWell (run_named found keys name arguments)
 run_named-loggable None keys name arguments request = tt
 run_named-loggable (Some command) keys name arguments request = taken_or_not (takes command (length arguments + 1)) refl
@@ -50,6 +53,7 @@ run_named-loggable (Some command) keys name arguments request = taken_or_not (ta
     taken_or_not true taken = run-loggable command keys name arguments request taken
     taken_or_not false taken = tt
 
+-- of any request
 pub does-loggable : (keys : Keys) (words : List (List ℕ)) → IsRequest words → LogsWell (does keys words)
 unfolding does
 does-loggable keys [] request = tt

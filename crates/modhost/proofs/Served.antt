@@ -61,13 +61,13 @@ module _ (store store' : Keys) (stream stream' : Stream) (bytes : ℕ) (words : 
   sent_all : (p : Progress store stream bytes before) → Appends sent sent' (text (does store words).reply) → Appends sent0 sent' (replies (p.requests ++ words ∷ []) no_keys)
   sent_all p reply =
       let all : replies p.requests no_keys ++ text (does store words).reply ≡ replies (p.requests ++ words ∷ []) no_keys
-        = ap (λ (k : Keys). replies p.requests no_keys ++ text (does k words).reply) p.keys ∙ sym (replies_push p.requests words no_keys) in
+      = ap (λ (k : Keys). replies p.requests no_keys ++ text (does k words).reply) p.keys ∙ sym (replies_push p.requests words no_keys) in
       subst (λ (r : List ℕ). Appends sent0 sent' r) all (Appends-trans sent0 sent sent' _ _ p.sent reply)
 
   pub logged_all : (p : Progress store stream bytes before) → Become (with_appended Log (unit (does store words).effects)) files files' → Become (with_file Log (units (p.requests ++ words ∷ []) no_keys)) files0 files'
   logged_all p logged =
       let all : units p.requests no_keys ++ unit (does store words).effects ≡ units (p.requests ++ words ∷ []) no_keys
-        = ap (λ (k : Keys). units p.requests no_keys ++ unit (does k words).effects) p.keys ∙ sym (units_push p.requests words no_keys) in
+      = ap (λ (k : Keys). units p.requests no_keys ++ unit (does k words).effects) p.keys ∙ sym (units_push p.requests words no_keys) in
       subst (λ (u : List ℕ). Become (with_file Log u) files0 files') all (logged_more _ _ files0 files files' p.logged logged)
 
   -- the requests with one more, which may be QUIT

@@ -8,6 +8,7 @@ use Rattle.modhost.specs.declared.command.Command.TheVariants.{Ping, Set, Get, D
 use Rattle.modhost.specs.Command.{command_named, takes}
 use Rattle.modhost.specs.Does.{does, run, says, changes, removes, without_all, bulk_or_null, unknown_command, wrong_number}
 
+-- the commands, on as many words as they take
 module _ (keys : Keys) where
   pub run-Ping-alone : (words : List (List ℕ)) → length words ≡ 1 → run Ping keys (drop 1 words) ≡ says keys (Simple (codes "PONG"))
   unfolding run
@@ -52,6 +53,7 @@ module _ (keys : Keys) where
 -- for `grind`: what each command comes to
 pub ruleset commands = (run-Ping-alone, run-Ping-message, run-Get, run-Set, run-Del-none, run-Del-some, run-Quit)
 
+-- a request whose first word is `name`
 module _ (keys : Keys) (name : List ℕ) where
   pub does-unknown : (words : List (List ℕ)) → 0 < length words → name ≡ get_or words 0 name → command_named name ≡ None → does keys words ≡ says keys (unknown_command name)
   unfolding does

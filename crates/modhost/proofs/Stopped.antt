@@ -60,27 +60,31 @@ stops_serving status.DirFault store stream stream' bytes words input left sent0 
     let log = stop.0.1 in
     let front : ℕ → List ℕ = λ count. take count (unit (does store words).effects) in
     let same : (count : ℕ) → units p.requests no_keys ++ front count ≡ units p.requests no_keys ++ take count (unit (does (keys_after p.requests no_keys) words).effects)
-      = λ count. ap (λ (k : Keys). units p.requests no_keys ++ take count (unit (does k words).effects)) p.keys in
-    (rose_within dir0 dir dir' dir_later stop.0.0, record {
-      requests = p.requests;
-      next = words;
-      rest = stream'.rest ++ known left;
-      read = reads_one store store stream stream' bytes words input left sent0 sent sent files0 files files p takes;
-      sent = Appends-kept sent0 sent sent' _ p.sent stop.1;
-      logged = (log.0, subst (λ (u : List ℕ). Become (with_file Log u) files0 files') (same log.0) (logged_more _ _ files0 files files' p.logged log.1));
-    })
+    = λ count. ap (λ (k : Keys). units p.requests no_keys ++ take count (unit (does k words).effects)) p.keys in (
+      rose_within dir0 dir dir' dir_later stop.0.0,
+      record {
+        requests = p.requests;
+        next = words;
+        rest = stream'.rest ++ known left;
+        read = reads_one store store stream stream' bytes words input left sent0 sent sent files0 files files p takes;
+        sent = Appends-kept sent0 sent sent' _ p.sent stop.1;
+        logged = (log.0, subst (λ (u : List ℕ). Become (with_file Log u) files0 files') (same log.0) (logged_more _ _ files0 files files' p.logged log.1));
+      },
+    )
 stops_serving status.WriteFault store stream stream' bytes words input left sent0 sent sent' files0 files files' dir0 dir dir' source source' sink0 sink sink' p takes dir_later sink_later stop =
     let part = stop.2 in
     let all : replies p.requests no_keys ++ text (does store words).reply ≡ replies (p.requests ++ words ∷ []) no_keys
-      = ap (λ (k : Keys). replies p.requests no_keys ++ text (does k words).reply) p.keys ∙ sym (replies_push p.requests words no_keys) in
-    let front = front_more (replies p.requests no_keys) (text (does store words).reply) part.0 in
-    (rose_within sink0 sink sink' sink_later stop.0, record {
-      requests = p.requests ++ words ∷ [];
-      rest = stream'.rest ++ known left;
-      read = reads_one store store stream stream' bytes words input left sent0 sent sent files0 files files p takes;
-      sent = (front.0, subst (λ (r : List ℕ). Appends sent0 sent' r) (front.1 ∙ ap (take front.0) all) (Appends-trans sent0 sent sent' _ _ p.sent part.1));
-      logged = logged_all store store stream stream' bytes words input left sent0 sent sent files0 files files' p stop.1;
-    })
+    = ap (λ (k : Keys). replies p.requests no_keys ++ text (does k words).reply) p.keys ∙ sym (replies_push p.requests words no_keys) in
+    let front = front_more (replies p.requests no_keys) (text (does store words).reply) part.0 in (
+      rose_within sink0 sink sink' sink_later stop.0,
+      record {
+        requests = p.requests ++ words ∷ [];
+        rest = stream'.rest ++ known left;
+        read = reads_one store store stream stream' bytes words input left sent0 sent sent files0 files files p takes;
+        sent = (front.0, subst (λ (r : List ℕ). Appends sent0 sent' r) (front.1 ∙ ap (take front.0) all) (Appends-trans sent0 sent sent' _ _ p.sent part.1));
+        logged = logged_all store store stream stream' bytes words input left sent0 sent sent files0 files files' p stop.1;
+      },
+    )
 stops_serving status.Done store stream stream' bytes words input left sent0 sent sent' files0 files files' dir0 dir dir' source source' sink0 sink sink' p takes dir_later sink_later stop = absurd stop
 stops_serving (status.Usage place) store stream stream' bytes words input left sent0 sent sent' files0 files files' dir0 dir dir' source source' sink0 sink sink' p takes dir_later sink_later stop = absurd stop
 stops_serving status.ReadFault store stream stream' bytes words input left sent0 sent sent' files0 files files' dir0 dir dir' source source' sink0 sink sink' p takes dir_later sink_later stop = absurd stop

@@ -27,6 +27,7 @@ module _ {K X : Type 0} (bytes : K → List ℕ) where
   abbrev pub value_of : List (K × X) → List ℕ → Option X
   value_of es key = lookup (is_at (λ k. slice_cmp nat_cmp key (bytes k))) es
 
+  -- found by the bytes alone, and by the tree's comparison
   find-by_bytes : (es : List (K × X)) (key : List ℕ) → find (slice_cmp nat_cmp) key (by_bytes es) ≡ value_of es key
   find-by_bytes [] key = refl
   find-by_bytes (e ∷ es) key = ap (cond (is_same key (bytes e.0)) (Some e.1)) (find-by_bytes es key)

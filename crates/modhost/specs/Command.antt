@@ -1,5 +1,5 @@
 -- The commands and their names.
-use Rattle.std.specs.Prelude.{ℕ, List, Bool, nat_lt, nat_le, ◌==◌, Option, Some, None, codes, if◌then◌else◌}
+use Rattle.std.specs.Prelude.{ℕ, List, Bool, nat_le, ◌==◌, Option, Some, None, codes, if◌then◌else◌}
 use Rattle.std.specs.Str.{str_eq_ignore_ascii_case}
 use Rattle.modhost.specs.declared.command.Command.{Command}
 use Rattle.modhost.specs.declared.command.Command.TheVariants.{Ping, Set, Get, Del, Quit}

@@ -74,7 +74,7 @@ impl Command {
 
     /// Whether the command takes so many words, its name among them.
     pub fn takes(self, words: usize) -> bool
-        ensures takes { result ≡ takes self words }
+        ensures words { result ≡ takes self words }
     {
         match self {
             Command::Ping => words <= 2,

@@ -1,6 +1,6 @@
 //! Carries out one request.
 
-ghost use Rattle.std.specs.Prelude.{◌≡◌, ℕ, ◌-◌, ◌<◌, ◌≤◌, List, [], ◌∷◌, length, drop, true, vec_len, IfOk, OnOk, OnErr};
+ghost use Rattle.std.specs.Prelude.{◌≡◌, ◌-◌, ◌<◌, ◌≤◌, [], ◌∷◌, length, drop, true, vec_len, IfOk, OnOk, OnErr};
 ghost use Rattle.std.specs.List.{AllByRecursion};
 ghost use Rattle.core_types.specs.Keys.{Keys, key_count, value_at};
 ghost use Rattle.effect_log.specs.Unit.{IsLoggable};
@@ -24,8 +24,8 @@ pub struct Outcome {
     pub effects: Effects,
 }
 
-/// Carries out one request: the keys, the reply and the effects are those of the command that the first word names.
-/// An `Err` leaves the keys as they were.
+/// Carries out one request: the keys, the reply and the effects are those of the command that the
+/// first word names, and the effects can be logged. An `Err` leaves the keys as they were.
 #[tactic(auto, using(crate::proofs::Steps::requests))]
 pub fn execute(alloc: Global, keys: &mut KeyStore, words: Args) -> Result<Outcome, NoMemory>
     requires { IsRequest words }
@@ -65,7 +65,8 @@ fn run(
 ) -> Result<Outcome, NoMemory>
     requires named { 0 < vec_len words }
     requires taken { takes command (vec_len words) ≡ true }
-    ensures step { IfOk result (λ o. run command keys.old (drop 1 words.items) ≡ step_of o keys.new) }
+    ensures step { IfOk result
+        (λ o. run command keys.old (drop 1 words.items) ≡ step_of o keys.new) }
     ensures err { OnErr result (keys.new ≡ keys.old) }
 {
     match command {
@@ -82,7 +83,8 @@ fn run(
 fn ping(alloc: Global, mut words: Vec<Blob>) -> Result<Outcome, NoMemory>
     requires some { 0 < vec_len words }
     requires few { vec_len words ≤ 2 }
-    ensures step { IfOk result (λ o. (keys : Keys) → run Command.Ping keys (drop 1 words.items) ≡ step_of o keys) }
+    ensures step { IfOk result
+        (λ o. (keys : Keys) → run Command.Ping keys (drop 1 words.items) ≡ step_of o keys) }
 {
     if words.len() == 1 {
         return Ok(says(alloc, Reply::simple(alloc, b"PONG")?));
@@ -94,7 +96,8 @@ fn ping(alloc: Global, mut words: Vec<Blob>) -> Result<Outcome, NoMemory>
 #[tactic(auto, using(crate::proofs::Steps::commands))]
 fn set(alloc: Global, keys: &mut KeyStore, words: Vec<Blob>) -> Result<Outcome, NoMemory>
     requires { vec_len words ≡ 3 }
-    ensures step { IfOk result (λ o. run Command.Set keys.old (drop 1 words.items) ≡ step_of o keys.new) }
+    ensures step { IfOk result
+        (λ o. run Command.Set keys.old (drop 1 words.items) ≡ step_of o keys.new) }
     ensures err { OnErr result (keys.new ≡ keys.old) }
 {
     let key = words[1].copy(alloc)?;
@@ -119,7 +122,8 @@ fn get(alloc: Global, keys: &KeyStore, key: &[u8]) -> Result<Reply, NoMemory>
 // `DEL key ..`: all that takes memory is done before the first key goes.
 fn del(alloc: Global, keys: &mut KeyStore, words: Vec<Blob>) -> Result<Outcome, NoMemory>
     requires { 2 ≤ vec_len words }
-    ensures step { IfOk result (λ o. run Command.Del keys.old (drop 1 words.items) ≡ step_of o keys.new) }
+    ensures step { IfOk result
+        (λ o. run Command.Del keys.old (drop 1 words.items) ≡ step_of o keys.new) }
     ensures err { OnErr result (keys.new ≡ keys.old) }
 {
     let effect = effect(alloc, Command::Del, words)?;

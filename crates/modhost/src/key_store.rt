@@ -9,7 +9,8 @@ use std::alloc::Global;
 use std::collections::BTreeMap;
 use std::marker::Model;
 
-/// The keys, each with its value. A look-up takes no memory, and every call is O(log n) in the number of keys.
+/// The keys, each with its value. Every call is O(log n) in the number of keys, and a look-up or a
+/// removal takes no memory.
 #[derive(Debug, Drop)]
 pub struct KeyStore {
     values: BTreeMap<Vec<u8>, Blob>,

@@ -20,6 +20,8 @@ pub mod refusal;
 pub mod sink;
 pub mod source;
 pub mod status;
+#[cfg(test)]
+mod tests;
 pub mod top;
 pub mod words;
 

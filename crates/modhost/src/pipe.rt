@@ -42,11 +42,21 @@ pub fn serve_source<D: Dir, S: Source, K: Sink>(
     requires keys { host.old.keys ≡ no_keys }
     requires log { IsEmptyLog (D.files host.old.dir) }
     ensures all { OnOk result (ServesAll (record {
-        input = S.left source.old; left = S.left source.new; sent_before = K.got sink.old; sent = K.got sink.new;
-        files_before = D.files host.old.dir; files = D.files host.new.dir })) }
+      input = S.left source.old;
+      left = S.left source.new;
+      sent_before = K.got sink.old;
+      sent = K.got sink.new;
+      files_before = D.files host.old.dir;
+      files = D.files host.new.dir;
+    })) }
     ensures stop { IfErr result (λ status. SourceStops status (record {
-        input = S.left source.old; left = S.left source.new; sent_before = K.got sink.old; sent = K.got sink.new;
-        files_before = D.files host.old.dir; files = D.files host.new.dir })
+      input = S.left source.old;
+      left = S.left source.new;
+      sent_before = K.got sink.old;
+      sent = K.got sink.new;
+      files_before = D.files host.old.dir;
+      files = D.files host.new.dir;
+    })
         (D.faults host.old.dir) (D.faults host.new.dir) (S.faults source.old) (S.faults source.new) (K.faults sink.old) (K.faults sink.new)) }
 {
     let mut reader = Reader::new(alloc);

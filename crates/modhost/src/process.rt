@@ -6,9 +6,8 @@ use crate::status::{Status, status_code};
 use crate::top::modhost;
 use core_types::NoMemory;
 use disk_model::RealDir;
-use std::env;
-use std::io;
 use std::process::ExitCode;
+use std::{env, io};
 
 const HELP: &str = "\
 modhost: a keyspace server in the manner of Redis

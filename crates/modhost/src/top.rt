@@ -62,9 +62,9 @@ pub fn modhost<D: Dir, S: Source, K: Sink>(
 
     // Opening failed, or some requests were served and of the next one's unit a front is in the log.
     ensures dir_fault_leaves { result.status ≡ Status.DirFault → OpensNot
-            (outside (S.left source.old) (S.left source.new) (K.got sink.old) (K.got sink.new) (D.files dir) (D.files result.dir))
+        (outside (S.left source.old) (S.left source.new) (K.got sink.old) (K.got sink.new) (D.files dir) (D.files result.dir))
         ⊎ (IsFresh (D.files dir) × LogsPart
-            (outside (S.left source.old) (S.left source.new) (K.got sink.old) (K.got sink.new) (D.files dir) (D.files result.dir))) }
+        (outside (S.left source.old) (S.left source.new) (K.got sink.old) (K.got sink.new) (D.files dir) (D.files result.dir))) }
     // Some requests were served, and of their replies a front was sent.
     ensures write_fault_leaves { result.status ≡ Status.WriteFault → IsFresh (D.files dir) × SendsPart
         (outside (S.left source.old) (S.left source.new) (K.got sink.old) (K.got sink.new) (D.files dir) (D.files result.dir)) }
@@ -75,9 +75,9 @@ pub fn modhost<D: Dir, S: Source, K: Sink>(
         (outside (S.left source.old) (S.left source.new) (K.got sink.old) (K.got sink.new) (D.files dir) (D.files result.dir)) }
     // Nothing was touched, or some requests were served.
     ensures memory_leaves { result.status ≡ Status.Memory → IsUntouched
-            (outside (S.left source.old) (S.left source.new) (K.got sink.old) (K.got sink.new) (D.files dir) (D.files result.dir))
+        (outside (S.left source.old) (S.left source.new) (K.got sink.old) (K.got sink.new) (D.files dir) (D.files result.dir))
         ⊎ (IsFresh (D.files dir) × ServesSome
-            (outside (S.left source.old) (S.left source.new) (K.got sink.old) (K.got sink.new) (D.files dir) (D.files result.dir))) }
+        (outside (S.left source.old) (S.left source.new) (K.got sink.old) (K.got sink.new) (D.files dir) (D.files result.dir))) }
 {
     match read_words(words) {
         Ok(Job::Pipe) => pipe(alloc, dir, source, sink),

@@ -46,14 +46,14 @@ returns-in_err-answer-in-Request-clause-stop g c =
     let p = err_from_is_err_and c.from_residual-in_err-answer-in-Request.result c.from_residual-in_err-answer-in-Request.ensures.1 in
     let i = c.serving.invariant in
     rw (p.1, p.2) (stops_serving c.in_err-answer-in-Request.field-0.0 _ _ _ _ c.in-Request.words _ _ _ _ _ _ _ _ _ _ _ _ _ _ _ _ i.progress
-        (c.in_ok-words.ensures.request c.in-Request.words (ap Ok c.in-Request.is)) i.dir i.sink c.in_err-answer-in-Request.ensures.stop)
+    (c.in_ok-words.ensures.request c.in-Request.words (ap Ok c.in-Request.is)) i.dir i.sink c.in_err-answer-in-Request.ensures.stop)
 
 pub returns-then-quits-clause-all : goal.returns-then-quits-clause-all
 returns-then-quits-clause-all g c =
     let p = c.serving.invariant.progress in
     let e = c.in_ok-answer-in-Request.ensures in
     let s : Serving c.serving.host.keys c.answer.new.host.keys c.serving.reader c.next.new.self c.in-Request.words (g.K.Sink.got c.serving.sink) (g.K.Sink.got c.answer.new.sink) (g.D.Dir.files c.serving.host.dir) (g.D.Dir.files c.answer.new.host.dir)
-      = record { takes = c.in_ok-words.ensures.request c.in-Request.words (ap Ok c.in-Request.is); keys = e.keys; reply = e.sent; logged = e.logged } in
+    = record { takes = c.in_ok-words.ensures.request c.in-Request.words (ap Ok c.in-Request.is); keys = e.keys; reply = e.sent; logged = e.logged } in
     record {
       requests = _;
       rest = _;
@@ -66,7 +66,7 @@ serving-preserved-else-quits g c =
     let i = c.serving.invariant in
     let e = c.in_ok-answer-in-Request.ensures in
     let s : Serving c.serving.host.keys c.answer.new.host.keys c.serving.reader c.next.new.self c.in-Request.words (g.K.Sink.got c.serving.sink) (g.K.Sink.got c.answer.new.sink) (g.D.Dir.files c.serving.host.dir) (g.D.Dir.files c.answer.new.host.dir)
-      = record { takes = c.in_ok-words.ensures.request c.in-Request.words (ap Ok c.in-Request.is); keys = e.keys; reply = e.sent; logged = e.logged } in
+    = record { takes = c.in_ok-words.ensures.request c.in-Request.words (ap Ok c.in-Request.is); keys = e.keys; reply = e.sent; logged = e.logged } in
     record {
       progress = goes_on _ _ _ _ _ _ _ _ _ _ _ _ _ _ i.progress s (sym c.is_quit-quits.ensures ∙ c.if-quits.false);
       dir = omega (arith, i.dir, c.answer.ensures.dir_later);
@@ -86,19 +86,19 @@ returns-then-count-eq0-clause-all g c =
     let e = c.in_ok-count-in-More.ensures in
     let same : c.next.new.self ≡ c.serving.reader = subst (λ (r : Got). IsSameUnlessTaken (Ok r) c.serving.reader c.next.new.self) c.in-More.is c.in_ok-words.ensures.same in
     let none : Consumes (g.S.Source.left c.serving.source) (g.S.Source.left c.next_piece.new.source) []
-      = subst (λ (n : ℕ). Consumes (g.S.Source.left c.serving.source) (g.S.Source.left c.next_piece.new.source) (take n c.next_piece.new.buffer)) c.if-count-eq0.true e.bytes in
+    = subst (λ (n : ℕ). Consumes (g.S.Source.left c.serving.source) (g.S.Source.left c.next_piece.new.source) (take n c.next_piece.new.buffer)) c.if-count-eq0.true e.bytes in
     on_ok_weaker c.at_end.result (λ (nothing : c.next.new.self.rest ≡ []).
-        ends_all _ _ _ _ _ _ _ _ _ _ c.serving.invariant.progress none (e.end c.if-count-eq0.true) (sym (ap (λ (s : Stream). s.rest) same) ∙ nothing)) c.at_end.ensures.whole
+    ends_all _ _ _ _ _ _ _ _ _ _ c.serving.invariant.progress none (e.end c.if-count-eq0.true) (sym (ap (λ (s : Stream). s.rest) same) ∙ nothing)) c.at_end.ensures.whole
 
 pub returns-then-count-eq0-clause-stop : goal.returns-then-count-eq0-clause-stop
 returns-then-count-eq0-clause-stop g c =
     let e = c.in_ok-count-in-More.ensures in
     let same : c.next.new.self ≡ c.serving.reader = subst (λ (r : Got). IsSameUnlessTaken (Ok r) c.serving.reader c.next.new.self) c.in-More.is c.in_ok-words.ensures.same in
     let none : Consumes (g.S.Source.left c.serving.source) (g.S.Source.left c.next_piece.new.source) []
-      = subst (λ (n : ℕ). Consumes (g.S.Source.left c.serving.source) (g.S.Source.left c.next_piece.new.source) (take n c.next_piece.new.buffer)) c.if-count-eq0.true e.bytes in
+    = subst (λ (n : ℕ). Consumes (g.S.Source.left c.serving.source) (g.S.Source.left c.next_piece.new.source) (take n c.next_piece.new.buffer)) c.if-count-eq0.true e.bytes in
     IfErr-weaker c.at_end.result _ _ (λ end cut. not_built end _ _ _ _ _ _ _ cut.0
-        (ends_within _ _ _ _ _ _ _ _ _ _ c.serving.invariant.progress none (e.end c.if-count-eq0.true)
-            (λ nothing. cut.1 (ap (λ (s : Stream). s.rest) same ∙ nothing)) (c.in_ok-words.ensures.more (ap Ok c.in-More.is)))) c.at_end.ensures.cut
+    (ends_within _ _ _ _ _ _ _ _ _ _ c.serving.invariant.progress none (e.end c.if-count-eq0.true)
+    (λ nothing. cut.1 (ap (λ (s : Stream). s.rest) same ∙ nothing)) (c.in_ok-words.ensures.more (ap Ok c.in-More.is)))) c.at_end.ensures.cut
 
 pub returns-in_err-feed-in-More-clause-stop : goal.returns-in_err-feed-in-More-clause-stop
 returns-in_err-feed-in-More-clause-stop g c =

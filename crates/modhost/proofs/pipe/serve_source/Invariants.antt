@@ -10,8 +10,13 @@ invariant-serving g l =
     let files = g.D.Dir.files in
     record {
       progress : Progress l.host.keys l.reader l.taken (record {
-        input = left l.fn.source; left = left l.source; sent_before = got l.fn.sink; sent = got l.sink;
-        files_before = files l.fn.host.dir; files = files l.host.dir });
+        input = left l.fn.source;
+        left = left l.source;
+        sent_before = got l.fn.sink;
+        sent = got l.sink;
+        files_before = files l.fn.host.dir;
+        files = files l.host.dir;
+      });
       dir : g.D.Dir.faults l.fn.host.dir ≤ g.D.Dir.faults l.host.dir;
       source : g.S.Source.faults l.fn.source ≤ g.S.Source.faults l.source;
       sink : g.K.Sink.faults l.fn.sink ≤ g.K.Sink.faults l.sink;
