@@ -1,10 +1,10 @@
 -- The places of a header: where its mark, its digits and its CR LF stand.
-use Rattle.std.proofs.Common.{◌≡◌, ◌≢◌, ℕ, zero, suc, ◌+◌, ◌-◌, ◌<◌, ◌≤◌, ◌^◌, List, [], ◌∷◌, ◌++◌, length, take, drop, get_or, refl, sym, ap, ◌∙◌, append_assoc, arith, inl, inr}
+use Rattle.std.proofs.Common.{◌≡◌, ◌≢◌, ℕ, zero, suc, ◌+◌, ◌-◌, ◌<◌, ◌≤◌, ◌^◌, List, ◌∷◌, ◌++◌, length, take, drop, get_or, refl, sym, ap, ◌∙◌, append_assoc, arith, inl, inr}
 use Rattle.std.specs.Fmt.{decimal}
 use Rattle.std.proofs.lemmas.Fmt.{decimal_is_IsNumeral, length-decimal-le, decimal_injective}
 use Rattle.std.proofs.lemmas.Grind.{common_steps}
 use Rattle.std.proofs.lemmas.Bool.{cases_lt}
-use Rattle.std.proofs.lemmas.List.{length-drop, get_or_append_left, take_at, take-append-drop, take-append-le, drop-append-le, drop_more}
+use Rattle.std.proofs.lemmas.List.{length-drop, get_or_append_left, take_at, take-append-le, drop-append-le}
 use Rattle.std.proofs.lemmas.Str.Parse.{digit_at}
 use Rattle.resp_codec.specs.Spelling.{crlf}
 use Rattle.resp_codec.specs.declared.line.LineEnd.TheVariants.{Missing}

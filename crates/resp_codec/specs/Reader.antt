@@ -6,8 +6,8 @@ use Rattle.resp_codec.specs.declared.reader.Got.{Got}
 use Rattle.resp_codec.specs.declared.reader.Got.TheVariants as got
 
 -- unless a request was taken, the stream is as it was
-abbrev pub IsSameUnlessTaken : Result Got NoMemory → Stream → Stream → Type 0
-IsSameUnlessTaken (Ok (got.Request words)) old new = ⊤
-IsSameUnlessTaken (Ok got.More) old new = new ≡ old
-IsSameUnlessTaken (Ok got.Unread) old new = new ≡ old
-IsSameUnlessTaken (Err e) old new = new ≡ old
+abbrev pub SameUnlessTaken : Result Got NoMemory → Stream → Stream → Type 0
+SameUnlessTaken (Ok (got.Request words)) old new = ⊤
+SameUnlessTaken (Ok got.More) old new = new ≡ old
+SameUnlessTaken (Ok got.Unread) old new = new ≡ old
+SameUnlessTaken (Err e) old new = new ≡ old

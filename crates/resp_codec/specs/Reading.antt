@@ -1,8 +1,7 @@
 -- What a step of reading says and does.
-use Rattle.std.specs.Prelude.{◌≡◌, ℕ, ◌<◌, List, ◌++◌, length, Result, Ok, Err}
+use Rattle.std.specs.Prelude.{◌≡◌, ◌<◌, ◌++◌, length}
 use Rattle.resp_codec.specs.Stream.{Stream, BeginsNone, NeverBegins, Takes}
 use Rattle.resp_codec.specs.Underway.{begun}
-use Rattle.core_types.specs.declared.no_memory.NoMemory.{NoMemory}
 use Rattle.resp_codec.specs.declared.reading.Reading.{Reading}
 use Rattle.resp_codec.specs.declared.reading.Step.{Step}
 use Rattle.resp_codec.specs.declared.reading.Step.TheVariants as step

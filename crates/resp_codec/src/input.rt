@@ -1,6 +1,6 @@
 //! The bytes that were fed and not yet read.
 
-ghost use Rattle.std.specs.Prelude.{◌≡◌, ◌<◌, ◌≤◌, ◌^◌, ◌++◌, List, ℕ, [], length, drop, take, slice_get, IfOk, OnOk, OnErr};
+ghost use Rattle.std.specs.Prelude.{◌≡◌, ◌<◌, ◌≤◌, ◌^◌, ◌++◌, [], length, drop, take, IfOk, OnOk, OnErr};
 
 use crate::header::{Header, judge};
 use crate::line::{LineEnd, find_return, line_end};
@@ -8,6 +8,9 @@ use bytes::BytesMut;
 use core_types::{Blob, NoMemory};
 use std::alloc::Global;
 use std::marker::Model;
+
+// A block with more room than this is given back once no byte is left in it.
+const MOST_ROOM: usize = 65_536;
 
 /// Bytes that grow at their end and are read from their front.
 #[derive(Debug, Drop)]
@@ -80,6 +83,20 @@ impl Input {
     {
         self.bytes.advance(count);
         self.searched = 0;
+        if self.bytes.is_empty() {
+            self.give_back();
+        }
+    }
+
+    // Keeps the room for the next bytes, unless it is much.
+    fn give_back(&mut self)
+        requires { self.old ≡ [] }
+        ensures empty { self.new ≡ [] }
+    {
+        self.bytes.clear();
+        if self.bytes.capacity() > MOST_ROOM {
+            self.bytes = BytesMut::new(*self.bytes.allocator());
+        }
     }
 
     /// What stands at the front, where a header is due with this mark and a number in this range.

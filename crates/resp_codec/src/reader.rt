@@ -39,7 +39,7 @@ impl Model for Reader {
 }
 
 impl Reader {
-    ghost use Rattle.resp_codec.specs.Reader.{IsSameUnlessTaken};
+    ghost use Rattle.resp_codec.specs.Reader.{SameUnlessTaken};
 
     /// A reader that was fed nothing. Takes no memory.
     pub fn new(alloc: Global) -> Reader
@@ -67,7 +67,7 @@ impl Reader {
             → Takes self.old self.new words }
         ensures more { result ≡ Ok Got.More → BeginsNone self.old.rest }
         ensures unread { result ≡ Ok Got.Unread → NeverBegins self.old.rest }
-        ensures same { IsSameUnlessTaken result self.old self.new }
+        ensures same { SameUnlessTaken result self.old self.new }
     {
         self.reading.next()
     }

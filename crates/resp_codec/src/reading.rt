@@ -3,7 +3,7 @@
 ghost use Rattle.std.specs.Prelude.{◌≡◌, ◌<◌, ◌≤◌, ◌+◌, ◌^◌, ◌++◌, ℕ, List, [], length, Ok, OnOk, OnErr, IfOk};
 ghost use Rattle.resp_codec.specs.Stream.{BeginsNone, NeverBegins, Takes};
 ghost use Rattle.resp_codec.specs.Underway.{begun, IsDue, IsDue-prop};
-ghost use Rattle.resp_codec.specs.Reader.{IsSameUnlessTaken};
+ghost use Rattle.resp_codec.specs.Reader.{SameUnlessTaken};
 
 use crate::fault::Fault;
 use crate::header::Header;
@@ -103,7 +103,7 @@ impl Reading {
             → Takes (seen self.old) (seen self.new) words }
         ensures more { result ≡ Ok Got.More → BeginsNone (seen self.old).rest }
         ensures unread { result ≡ Ok Got.Unread → NeverBegins (seen self.old).rest }
-        ensures same { IsSameUnlessTaken result (seen self.old) (seen self.new) }
+        ensures same { SameUnlessTaken result (seen self.old) (seen self.new) }
     {
         loop {
             match self.step()? {
@@ -134,9 +134,9 @@ impl Reading {
         match self.input.header(b'*', 1, MOST_WORDS) {
             Header::Open => Step::Wait,
             Header::Bad(flaw) => Step::Bad(Fault::Count(flaw)),
-            Header::Number(count, length) => {
-                self.input.skip(length);
-                self.read = length as u64;
+            Header::Number(count, size) => {
+                self.input.skip(size);
+                self.read = size as u64;
                 self.count = count as usize;
                 self.stage = Stage::Length;
                 Step::Onward
@@ -152,10 +152,10 @@ impl Reading {
         match self.input.header(b'$', 0, LONGEST_WORD) {
             Header::Open => Step::Wait,
             Header::Bad(flaw) => Step::Bad(Fault::Length(flaw)),
-            Header::Number(word, length) => {
-                self.input.skip(length);
-                self.read += length as u64;
-                self.stage = Stage::Word(word as usize);
+            Header::Number(length, size) => {
+                self.input.skip(size);
+                self.read += size as u64;
+                self.stage = Stage::Word(length as usize);
                 Step::Onward
             }
         }

@@ -1,14 +1,12 @@
+ghost use Rattle.std.specs.Prelude.{◌≡◌, ◌+◌, ◌<◌, ◌^◌, length};
+
 use crate::{Got, Reader};
+use core_types::Args;
 use std::alloc::Global;
 use std::test::Fail;
 
-// What a reader answers, as a text: its words in brackets, or the answer's name.
-fn answer(alloc: Global, reader: &mut Reader) -> Result<Vec<u8>, Fail> {
-    let words = match reader.next()? {
-        Got::Request(words) => words,
-        Got::More => return Ok(b"more".to_vec(alloc)?),
-        Got::Unread => return Ok(b"unread".to_vec(alloc)?),
-    };
+// The words in brackets.
+fn bracketed(alloc: Global, words: &Args) -> Result<Vec<u8>, Fail> {
     let mut text = Vec::new(alloc);
     for word in words.as_slice() {
         text.push(b'[')?;
@@ -18,16 +16,20 @@ fn answer(alloc: Global, reader: &mut Reader) -> Result<Vec<u8>, Fail> {
     Ok(text)
 }
 
-// What is answered once these bytes were fed whole.
-fn answer_to(alloc: Global, bytes: &[u8]) -> Result<Vec<u8>, Fail> {
-    let mut reader = Reader::new(alloc);
-    reader.feed(bytes)?;
-    answer(alloc, &mut reader)
+// What the reader answers: the words of a request in brackets, or the answer's name.
+fn answer(alloc: Global, reader: &mut Reader) -> Result<Vec<u8>, Fail>
+    ensures { reader.new.passed + length reader.new.rest ≡ reader.old.passed + length reader.old.rest }
+{
+    match reader.next()? {
+        Got::Request(words) => bracketed(alloc, &words),
+        Got::More => Ok(b"more".to_vec(alloc)?),
+        Got::Unread => Ok(b"unread".to_vec(alloc)?),
+    }
 }
 
-const SET: &[u8] = b"*3\r\n$3\r\nSET\r\n$1\r\nk\r\n$4\r\na\r\nb\r\n";
+const SET: [u8; 30] = *b"*3\r\n$3\r\nSET\r\n$1\r\nk\r\n$4\r\na\r\nb\r\n";
 
-const EMPTY: &[u8] = b"*1\r\n$0\r\n\r\n";
+const EMPTY: [u8; 10] = *b"*1\r\n$0\r\n\r\n";
 
 // Each call answers something else than want of memory, and what it should.
 #[test]
@@ -35,8 +37,8 @@ fn ample(rt: HostRuntime) -> Result<(), Fail> {
     let alloc = rt.alloc();
     let mut reader = Reader::new(alloc);
     assert_eq!(rt; reader.rest(), 0);
-    reader.feed(SET)?;
-    reader.feed(EMPTY)?;
+    reader.feed(&SET)?;
+    reader.feed(&EMPTY)?;
     reader.feed(b"*1")?;
     assert_eq!(rt; reader.rest(), 42);
     assert_eq!(rt;
@@ -50,19 +52,17 @@ fn ample(rt: HostRuntime) -> Result<(), Fail> {
     Ok(())
 }
 
-// A request that is cut in any place is not whole, until its last byte comes.
+// A request that is cut in any place is not whole until the rest comes.
 #[test]
-fn byte_by_byte(rt: HostRuntime) -> Result<(), Fail> {
+fn cut_anywhere(rt: HostRuntime) -> Result<(), Fail> {
     let alloc = rt.alloc();
-    let mut reader = Reader::new(alloc);
-    for _ in 0..3u8 {
-        let mut fed = 0;
-        for byte in SET {
-            assert_eq!(rt; answer(alloc, &mut reader)?.as_slice(), b"more".as_slice());
-            assert_eq!(rt; reader.rest(), fed);
-            reader.feed(&[*byte])?;
-            fed += 1;
-        }
+    for cut in 0..SET.len() {
+        let (front, back) = SET.split_at(cut);
+        let mut reader = Reader::new(alloc);
+        reader.feed(front)?;
+        assert_eq!(rt; answer(alloc, &mut reader)?.as_slice(), b"more".as_slice());
+        assert_eq!(rt; reader.rest(), cut as u64);
+        reader.feed(back)?;
         assert_eq!(rt;
             answer(alloc, &mut reader)?.as_slice(),
             b"[SET][k][a\r\nb]".as_slice()
@@ -72,7 +72,26 @@ fn byte_by_byte(rt: HostRuntime) -> Result<(), Fail> {
     Ok(())
 }
 
-// Each way not to be a request is told as soon as the byte that shows it has come, and at no byte before.
+// A stream that comes byte by byte holds the same requests.
+#[test]
+fn byte_by_byte(rt: HostRuntime) -> Result<(), Fail> {
+    let alloc = rt.alloc();
+    let stream = *b"*2\r\n$4\r\nECHO\r\n$0\r\n\r\n*1\r\n$1\r\n\n\r\n*1\r\n$4\r\nQU";
+    let mut reader = Reader::new(alloc);
+    let mut told = Vec::new(alloc);
+    for byte in &stream {
+        reader.feed(&[*byte])?;
+        let text = answer(alloc, &mut reader)?;
+        if text.as_slice() != b"more".as_slice() {
+            told.extend_from_slice(&text)?;
+        }
+    }
+    assert_eq!(rt; told.as_slice(), b"[ECHO][][\n]".as_slice());
+    assert_eq!(rt; reader.rest(), 10);
+    Ok(())
+}
+
+// What no bytes to come make a request is told at once: with its last byte, and not before.
 #[test]
 fn unread_at_once(rt: HostRuntime) -> Result<(), Fail> {
     let alloc = rt.alloc();
@@ -100,31 +119,50 @@ fn unread_at_once(rt: HostRuntime) -> Result<(), Fail> {
         b"*1\r\n$0\r\n\n",
     ];
     for bytes in cases {
-        let last = bytes.len() - 1;
-        assert_eq!(rt;
-            answer_to(alloc, bytes)?.as_slice(),
-            b"unread".as_slice(),
-            "{bytes:?}"
-        );
+        let (front, last) = bytes.split_at(bytes.len().saturating_sub(1));
         let mut reader = Reader::new(alloc);
-        reader.feed(&bytes[..last])?;
+        reader.feed(front)?;
         assert_eq!(rt;
             answer(alloc, &mut reader)?.as_slice(),
             b"more".as_slice(),
             "{bytes:?}"
         );
-        reader.feed(&bytes[last..])?;
-        reader.feed(EMPTY)?;
-        for _ in 0..2u8 {
-            assert_eq!(rt;
-                answer(alloc, &mut reader)?.as_slice(),
-                b"unread".as_slice(),
-                "{bytes:?}"
-            );
-        }
-        assert_eq!(rt; reader.rest(), (bytes.len() + EMPTY.len()) as u64);
+        reader.feed(last)?;
+        assert_eq!(rt;
+            answer(alloc, &mut reader)?.as_slice(),
+            b"unread".as_slice(),
+            "{bytes:?}"
+        );
+        reader.feed(&SET)?;
+        assert_eq!(rt;
+            answer(alloc, &mut reader)?.as_slice(),
+            b"unread".as_slice(),
+            "{bytes:?}"
+        );
     }
     Ok(())
+}
+
+// The largest numbers are no reason to refuse, nor to wait for memory.
+#[test]
+fn largest_numbers(rt: HostRuntime) -> Result<(), Fail> {
+    let alloc = rt.alloc();
+    let mut reader = Reader::new(alloc);
+    reader.feed(b"*1048576\r\n$536870912\r\n")?;
+    assert_eq!(rt; answer(alloc, &mut reader)?.as_slice(), b"more".as_slice());
+    assert_eq!(rt; reader.rest(), 22);
+    Ok(())
+}
+
+// The answer to these bytes and so many digits.
+fn answer_to_digits(alloc: Global, front: &[u8], count: usize) -> Result<Vec<u8>, Fail>
+    requires { count < 2 ^ 32 }
+{
+    let mut reader = Reader::new(alloc);
+    reader.feed(front)?;
+    let digits = vec![in alloc; b'1'; count]?;
+    reader.feed(&digits)?;
+    answer(alloc, &mut reader)
 }
 
 // A header has its CR among its first 65,537 bytes, its mark included.
@@ -132,15 +170,12 @@ fn unread_at_once(rt: HostRuntime) -> Result<(), Fail> {
 fn longest_header(rt: HostRuntime) -> Result<(), Fail> {
     let alloc = rt.alloc();
     for front in [b"*".as_slice(), b"*1\r\n$"] {
-        let mut reader = Reader::new(alloc);
-        reader.feed(front)?;
-        for _ in 0..65_535u32 {
-            reader.feed(b"1")?;
-        }
-        assert_eq!(rt; answer(alloc, &mut reader)?.as_slice(), b"more".as_slice());
-        reader.feed(b"1")?;
         assert_eq!(rt;
-            answer(alloc, &mut reader)?.as_slice(),
+            answer_to_digits(alloc, front, 65_535)?.as_slice(),
+            b"more".as_slice()
+        );
+        assert_eq!(rt;
+            answer_to_digits(alloc, front, 65_536)?.as_slice(),
             b"unread".as_slice()
         );
     }

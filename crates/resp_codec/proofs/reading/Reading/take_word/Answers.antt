@@ -1,6 +1,5 @@
 use Rattle.std.proofs.Common.{◌+◌, sym, ap, arith}
 use Rattle.std.proofs.lemmas.List.{length-drop}
-use Rattle.resp_codec.specs.Stream.{Stream}
 use Rattle.resp_codec.proofs.ReaderSteps.{begun-push, takes_last, stream}
 use Rattle.resp_codec.proofs.reading.Reading.take_word.Goals as goal
 
