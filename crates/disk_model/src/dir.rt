@@ -2,10 +2,11 @@
 
 ghost use Rattle.std.specs.Prelude.{◌≡◌, ◌⊎◌, ◌≤◌, ℕ, List, [], Option, take, length, IfOk, OnOk, OnErr, IfSome};
 ghost use Rattle.core_types.specs.Causes.{HasCause, HasCauseFor};
+ghost use Rattle.disk_model.specs.declared.dir.ReadAllStop.TheVariants as stops;
 ghost use Rattle.disk_model.specs.Files.{Files, file, with_file, with_appended, Become, Stay, IsThere};
 
 use crate::FileName;
-use core_types::Blob;
+use core_types::{Blob, NoMemory};
 use std::alloc::Global;
 
 /// The directory failed, and counted it.
@@ -19,6 +20,22 @@ pub enum ReadAllStop {
     Dir,
     /// Memory ran out.
     Memory,
+}
+
+impl From<DirFault> for ReadAllStop {
+    ghost from_gives = { λ _ stop. stop ≡ stops.Dir };
+
+    fn from(_: DirFault) -> ReadAllStop {
+        ReadAllStop::Dir
+    }
+}
+
+impl From<NoMemory> for ReadAllStop {
+    ghost from_gives = { λ _ stop. stop ≡ stops.Memory };
+
+    fn from(_: NoMemory) -> ReadAllStop {
+        ReadAllStop::Memory
+    }
 }
 
 /// A directory of the four files of `FileName`.

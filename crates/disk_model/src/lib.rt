@@ -8,10 +8,10 @@
 
 mod dir;
 mod file_name;
-// mod memory;
-// mod real;
+mod memory;
+mod real;
 
 pub use dir::{Dir, DirFault, ReadAllStop};
 pub use file_name::FileName;
-// pub use memory::MemoryDir;
-// pub use real::RealDir;
+pub use memory::MemoryDir;
+pub use real::RealDir;

@@ -1,0 +1,110 @@
+//! One file of the folder: its handle, and whether its bytes are on the disk.
+
+ghost use Rattle.std.specs.Prelude.{◌≡◌, IsErr, OnOk, OnErr};
+ghost use Rattle.disk_model.specs.Synced.{after_change};
+
+use super::folder::RealFolder;
+use super::synced::Synced;
+use core_types::Blob;
+use std::alloc::Global;
+use std::fs::{File, OpenFile, OpenOptions};
+use std::io::{self, ErrorKind, Read, Write};
+use std::path::PathBuf;
+use std::rt::Files;
+
+/// A file by its path, which is open from its first change or sync on.
+#[derive(Drop)]
+pub(crate) struct RealFile<R: Files> {
+    path: PathBuf,
+    handle: Option<R::File>,
+    bytes: Synced,
+}
+
+impl<R: Files> RealFile<R> {
+    /// The file at this path. An earlier run may have left its bytes unsynced.
+    pub(crate) fn new(path: PathBuf) -> RealFile<R>
+        ensures unsynced { result.bytes ≡ Synced.No }
+    {
+        RealFile {
+            path,
+            handle: None,
+            bytes: Synced::No,
+        }
+    }
+
+    /// All bytes, or `None` where the folder can be read and the file is not in it.
+    pub(crate) fn read_all(
+        &self,
+        rt: &R,
+        alloc: Global,
+        folder: &RealFolder,
+    ) -> io::Result<Option<Blob>> {
+        match File::open(rt, &self.path) {
+            Ok(mut file) => {
+                let mut bytes = Vec::new(alloc);
+                file.read_to_end(&mut bytes)?;
+                Ok(Some(Blob::from_vec(bytes)))
+            }
+            Err(error) if error.kind() == ErrorKind::NotFound => {
+                folder.open(rt)?;
+                Ok(None)
+            }
+            Err(error) => Err(error),
+        }
+    }
+
+    /// Makes the file new and empty. Nothing is left of it that a failed sync may have lost.
+    pub(crate) fn create(&mut self, rt: &R) -> io::Result<()>
+        ensures ok { OnOk result (self.new.bytes ≡ Synced.No) }
+        ensures err { OnErr result (self.new.bytes ≡ after_change self.old.bytes) }
+    {
+        self.bytes = self.bytes.after_change();
+        self.handle = None;
+        self.handle = Some(File::create(rt, &self.path)?);
+        self.bytes = Synced::No;
+        Ok(())
+    }
+
+    /// Adds all of the bytes at the end. On an `Err` a front of them may stand there.
+    pub(crate) fn append(&mut self, rt: &R, bytes: &[u8]) -> io::Result<()>
+        ensures unsynced { self.new.bytes ≡ after_change self.old.bytes }
+    {
+        self.bytes = self.bytes.after_change();
+        let mut file = self.take_handle(rt)?;
+        let done = file.write_all(bytes);
+        self.handle = Some(file);
+        done
+    }
+
+    /// Makes the bytes safe from a crash, with no system call where they are known to be.
+    pub(crate) fn sync(&mut self, rt: &R) -> io::Result<()>
+        ensures ok { OnOk result (self.new.bytes ≡ Synced.Yes) }
+        ensures failed { self.old.bytes ≡ Synced.Failed → IsErr result }
+    {
+        match self.bytes {
+            Synced::Yes => Ok(()),
+            Synced::No => self.sync_data(rt),
+            Synced::Failed => Err(io::Error::from(ErrorKind::Other)),
+        }
+    }
+
+    fn sync_data(&mut self, rt: &R) -> io::Result<()>
+        ensures ok { OnOk result (self.new.bytes ≡ Synced.Yes) }
+    {
+        let file = self.take_handle(rt)?;
+        let done = file.sync_data();
+        self.bytes = Synced::after_sync(&done);
+        self.handle = Some(file);
+        done
+    }
+
+    // The handle, which is to be put back.
+    fn take_handle(&mut self, rt: &R) -> io::Result<R::File>
+        ensures same { self.new.bytes ≡ self.old.bytes }
+    {
+        match self.handle.take() {
+            Some(file) => Ok(file),
+            None => OpenOptions::new().append(true).open(rt, &self.path),
+        }
+    }
+}
