@@ -10,6 +10,8 @@ mod dir;
 mod file_name;
 mod memory;
 mod real;
+#[cfg(test)]
+mod tests;
 
 pub use dir::{Dir, DirFault, ReadAllStop};
 pub use file_name::FileName;
