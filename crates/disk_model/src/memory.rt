@@ -1,6 +1,6 @@
 //! A directory in memory that fails at the calls that it is told to fail at.
 
-ghost use Rattle.std.specs.Prelude.{◌≡◌, ◌≤◌, ◌↔◌, [], Some, Err, IsErr, IfOk, OnOk, OnErr};
+ghost use Rattle.std.specs.Prelude.{◌≡◌, ◌≤◌, ◌↔◌, [], Some, IsSome, Err, IsErr, IfOk, OnOk, OnErr};
 ghost use Rattle.std.specs.Option.{option_copied};
 ghost use Rattle.core_types.specs.Causes.{HasCause, HasCauseFor};
 ghost use Rattle.disk_model.specs.Files.{file, with_file, with_appended};
@@ -108,6 +108,7 @@ impl Dir for MemoryDir {
     }
 
     fn append(&mut self, name: FileName, bytes: &[u8]) -> Result<(), DirFault>
+        requires { IsSome (file name self.old.files) }
         ensures fails { NextFails self.old → IsErr result }
         ensures ok { OnOk result (self.new
             ≡ holding (with_appended name bytes.now self.old.files) (called self.old)) }
@@ -125,7 +126,8 @@ impl Dir for MemoryDir {
         Ok(())
     }
 
-    fn sync(&mut self, _name: FileName) -> Result<(), DirFault>
+    fn sync(&mut self, name: FileName) -> Result<(), DirFault>
+        requires { IsSome (file name self.old.files) }
         ensures fails { IsErr result ↔ NextFails self.old }
         ensures ok { OnOk result (self.new ≡ called self.old) }
         ensures err { OnErr result (self.new ≡ failed self.old) }

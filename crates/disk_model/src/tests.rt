@@ -1,77 +1,102 @@
 use crate::{Dir, FileName, MemoryDir, ReadAllStop, RealDir};
 use core_types::{Blob, NoMemory};
 use std::alloc::Global;
-use std::fs;
 use std::os::unix::fs::symlink;
 use std::test::Fail;
+use std::{fs, io};
 
 fn bytes(found: &Option<Blob>) -> Option<&[u8]> {
     found.as_ref().map(|blob| blob.as_slice())
+}
+
+// Makes an empty folder, whatever a run that was cut off has left there.
+fn empty_folder(rt: &HostRuntime, folder: &str) -> io::Result<()> {
+    let _ = fs::remove_dir_all(rt, folder);
+    fs::create_dir(rt, folder)
 }
 
 // Each call that takes memory answers something else than want of memory, and what it should.
 #[test]
 fn ample(rt: HostRuntime) -> Result<(), Fail> {
     let alloc = rt.alloc();
-    let mut memory = MemoryDir::new(alloc, &[])?.with_file(FileName::Dump, b"REDIS")?;
-    memory.append(FileName::Dump, b"0009")?;
-    let dump = memory.read_all(alloc, FileName::Dump)?;
+    let mut dir = MemoryDir::new(alloc, &[])?.with_file(FileName::Dump, b"REDIS")?;
+    dir.append(FileName::Dump, b"0009")?;
+    let dump = dir.read_all(alloc, FileName::Dump)?;
     assert_eq!(rt; bytes(&dump), Some(b"REDIS0009".as_slice()));
-    assert_eq!(rt; memory.content(FileName::Log), None);
-
-    let mut real = RealDir::new(rt, alloc, "")?;
-    assert!(rt; real.read_all(alloc, FileName::Log)?.is_none());
-    real.create(FileName::Log)?;
-    real.append(FileName::Log, b"one, ")?;
-    real.append(FileName::Log, b"two")?;
-    real.sync(FileName::Log)?;
-    real.sync_names()?;
-    let log = real.read_all(alloc, FileName::Log)?;
-    assert_eq!(rt; bytes(&log), Some(b"one, two".as_slice()));
+    assert_eq!(rt; dir.content(FileName::Log), None);
     Ok(())
 }
 
-// Which calls of a short script fail.
-fn failing_calls(alloc: Global, dir: &mut MemoryDir) -> [bool; 5] {
-    [
-        dir.create(FileName::Log).is_err(),
-        dir.append(FileName::Log, b"abcde").is_err(),
-        dir.sync(FileName::Log).is_err(),
-        dir.sync_names().is_err(),
-        dir.read_all(alloc, FileName::Log).is_err(),
-    ]
+// The same over a folder.
+#[test]
+fn ample_folder(rt: HostRuntime) -> Result<(), Fail> {
+    let alloc = rt.alloc();
+    empty_folder(&rt, "ample")?;
+    let mut dir = RealDir::new(rt, alloc, "ample")?;
+    assert!(rt; dir.read_all(alloc, FileName::Log)?.is_none());
+    dir.create(FileName::Log)?;
+    dir.append(FileName::Log, b"one, ")?;
+    dir.append(FileName::Log, b"two")?;
+    dir.sync(FileName::Log)?;
+    dir.sync_names()?;
+    let log = dir.read_all(alloc, FileName::Log)?;
+    assert_eq!(rt; bytes(&log), Some(b"one, two".as_slice()));
+    fs::remove_dir_all(&rt, "ample")?;
+    Ok(())
 }
 
-// The call that is listed fails and no other. A failed `create` leaves the old bytes, and a failed
-// `append` half of the new ones.
+// How many calls of a short script are done before one fails.
+fn calls_done(alloc: Global, dir: &mut MemoryDir) -> usize {
+    let Ok(()) = dir.create(FileName::Log) else {
+        return 0;
+    };
+    let Ok(()) = dir.append(FileName::Log, b"abcde") else {
+        return 1;
+    };
+    let Ok(()) = dir.sync(FileName::Log) else {
+        return 2;
+    };
+    let Ok(()) = dir.sync_names() else {
+        return 3;
+    };
+    match dir.read_all(alloc, FileName::Log) {
+        Ok(_) => 5,
+        Err(_) => 4,
+    }
+}
+
+// The call that is listed fails. A failed `create` leaves the old bytes, and a failed `append` half of
+// the new ones.
 #[test]
 fn listed_call_fails(rt: HostRuntime) -> Result<(), Fail> {
     let alloc = rt.alloc();
-    let left = [b"oldabcde".as_slice(), b"ab", b"abcde", b"abcde", b"abcde"];
-    for (place, want) in left.iter().enumerate() {
-        let fails = [place as u64 + 1];
+    let left = [b"old".as_slice(), b"ab", b"abcde", b"abcde", b"abcde"];
+    for (done, want) in left.iter().enumerate() {
+        let fails = [done as u64 + 1];
         let mut dir = MemoryDir::new(alloc, &fails)?.with_file(FileName::Log, b"old")?;
-        for (call, failed) in failing_calls(alloc, &mut dir).iter().enumerate() {
-            assert_eq!(rt; *failed, call == place, "call {call} where {place} is to fail");
-        }
-        assert_eq!(rt; dir.content(FileName::Log), Some(*want), "where {place} is to fail");
+        assert_eq!(rt; calls_done(alloc, &mut dir), done);
+        assert_eq!(rt;
+            dir.content(FileName::Log),
+            Some(*want),
+            "after {done} calls"
+        );
     }
     Ok(())
 }
 
-// Each file has its name in the folder, and a second directory goes on with it.
+// Each file has its name in the folder, and a second directory goes on with what is there.
 #[test]
 fn files_lie_in_the_folder(rt: HostRuntime) -> Result<(), Fail> {
     let alloc = rt.alloc();
-    fs::create_dir(&rt, "d")?;
+    empty_folder(&rt, "files")?;
     let files = [
-        (FileName::Log, "d/appendonly.aof"),
-        (FileName::LogTemp, "d/temp-rewriteaof.aof"),
-        (FileName::Dump, "d/dump.rdb"),
-        (FileName::DumpTemp, "d/temp.rdb"),
+        (FileName::Log, "files/appendonly.aof"),
+        (FileName::LogTemp, "files/temp-rewriteaof.aof"),
+        (FileName::Dump, "files/dump.rdb"),
+        (FileName::DumpTemp, "files/temp.rdb"),
     ];
-    let mut first = RealDir::new(rt, alloc, "d")?;
-    let mut second = RealDir::new(rt, alloc, "d/")?;
+    let mut first = RealDir::new(rt, alloc, "files")?;
+    let mut second = RealDir::new(rt, alloc, "files/")?;
     for (name, path) in files {
         first.create(name)?;
         first.append(name, path.as_bytes())?;
@@ -81,28 +106,37 @@ fn files_lie_in_the_folder(rt: HostRuntime) -> Result<(), Fail> {
         assert_eq!(rt; fs::read_to_string(&rt, path)?.as_str(), want.as_str());
         second.create(name)?;
         second.append(name, b"new")?;
-        assert_eq!(rt; bytes(&first.read_all(alloc, name)?), Some(b"new".as_slice()));
+        assert_eq!(rt;
+            bytes(&first.read_all(alloc, name)?),
+            Some(b"new".as_slice())
+        );
     }
+    fs::remove_dir_all(&rt, "files")?;
     Ok(())
 }
 
 fn each_call_fails(rt: HostRuntime, alloc: Global, folder: &str) -> Result<bool, NoMemory> {
     let mut dir = RealDir::new(rt, alloc, folder)?;
     let read_fails = matches!(dir.read_all(alloc, FileName::Log), Err(ReadAllStop::Dir));
-    Ok(read_fails
-        && dir.create(FileName::Log).is_err()
-        && dir.append(FileName::Log, b"a").is_err()
-        && dir.sync(FileName::Log).is_err()
-        && dir.sync_names().is_err())
+    Ok(
+        read_fails
+            && dir.create(FileName::Log).is_err()
+            && dir.append(FileName::Log, b"a").is_err()
+            && dir.sync(FileName::Log).is_err()
+            && dir.sync_names().is_err(),
+    )
 }
 
-// Where there is no folder each call is a fault, also the read of a file.
+// Where no folder is there each call is a fault, also the read of a file. The empty path is a folder.
 #[test]
 fn folder_is_missing(rt: HostRuntime) -> Result<(), Fail> {
     let alloc = rt.alloc();
-    assert!(rt; each_call_fails(rt, alloc, "missing")?);
-    fs::write(&rt, "file", b"".as_slice())?;
-    assert!(rt; each_call_fails(rt, alloc, "file")?);
+    empty_folder(&rt, "missing")?;
+    assert!(rt; each_call_fails(rt, alloc, "missing/folder")?);
+    fs::write(&rt, "missing/file", b"".as_slice())?;
+    assert!(rt; each_call_fails(rt, alloc, "missing/file")?);
+    RealDir::new(rt, alloc, "")?.sync_names()?;
+    fs::remove_dir_all(&rt, "missing")?;
     Ok(())
 }
 
@@ -110,17 +144,19 @@ fn folder_is_missing(rt: HostRuntime) -> Result<(), Fail> {
 #[test]
 fn file_fails(rt: HostRuntime) -> Result<(), Fail> {
     let alloc = rt.alloc();
-    symlink(&rt, "/dev/full", "appendonly.aof")?;
-    fs::create_dir(&rt, "dump.rdb")?;
-    let mut dir = RealDir::new(rt, alloc, ".")?;
+    empty_folder(&rt, "failing")?;
+    symlink(&rt, "/dev/full", "failing/appendonly.aof")?;
+    fs::create_dir(&rt, "failing/dump.rdb")?;
+    let mut dir = RealDir::new(rt, alloc, "failing")?;
     assert!(rt; dir.append(FileName::Log, b"a").is_err());
     assert!(rt; dir.sync(FileName::Log).is_err());
     assert!(rt; matches!(dir.read_all(alloc, FileName::Dump), Err(ReadAllStop::Dir)));
-    // A file that is made anew is free of what went before.
-    fs::remove_file(&rt, "appendonly.aof")?;
+    // A file that is made anew is free of what failed before.
+    fs::remove_file(&rt, "failing/appendonly.aof")?;
     dir.create(FileName::Log)?;
     dir.append(FileName::Log, b"a")?;
     dir.sync(FileName::Log)?;
+    fs::remove_dir_all(&rt, "failing")?;
     Ok(())
 }
 
@@ -128,10 +164,10 @@ fn file_fails(rt: HostRuntime) -> Result<(), Fail> {
 #[test]
 fn names_are_synced_once(rt: HostRuntime) -> Result<(), Fail> {
     let alloc = rt.alloc();
-    fs::create_dir(&rt, "d")?;
-    let mut dir = RealDir::new(rt, alloc, "d")?;
+    empty_folder(&rt, "names")?;
+    let mut dir = RealDir::new(rt, alloc, "names")?;
     dir.sync_names()?;
-    fs::remove_dir(&rt, "d")?;
+    fs::remove_dir(&rt, "names")?;
     dir.sync_names()?;
     assert!(rt; dir.create(FileName::Log).is_err());
     assert!(rt; dir.sync_names().is_err());
