@@ -1,17 +1,17 @@
 -- Serving ends with the input, at QUIT, or at what is no request.
-use Rattle.std.proofs.Common.{◌≡◌, ◌≢◌, ◌⊎◌, ℕ, ◌+◌, ◌-◌, ◌^◌, ◌≤◌, ◌<◌, List, [], ◌∷◌, ◌++◌, length, take, Bool, true, false, Option, Some, None, IfSome, Result, Ok, Err, OnOk, IfErr, refl, sym, ap, subst, ◌∙◌, append_assoc, length-append, inl, inr, arith}
+use Rattle.std.proofs.Common.{◌≡◌, ◌≢◌, ℕ, ◌-◌, ◌^◌, ◌≤◌, List, [], ◌∷◌, ◌++◌, length, take, false, Option, Some, None, IfSome, refl, sym, ap, subst, ◌∙◌, inl, arith}
 use Rattle.std.specs.List.{AllByRecursion, list_any}
-use Rattle.std.specs.Io.KnownBytes.{Appends, Keeps, Consumes, IsAtEnd}
-use Rattle.std.proofs.KnownBytes.{Consumes-trans, Keeps-refl}
+use Rattle.std.specs.Io.KnownBytes.{Consumes, IsAtEnd}
+use Rattle.std.proofs.KnownBytes.{Keeps-refl}
 use Rattle.std.proofs.lemmas.List.{append-nil}
-use Rattle.core_types.specs.Keys.{Keys, no_keys}
+use Rattle.core_types.specs.Keys.{Keys}
 use Rattle.resp_codec.specs.Spelling.{multibulk, IsRequest}
 use Rattle.resp_codec.specs.Stream.{Stream, spelled, BeginsNone, NeverBegins}
 use Rattle.disk_model.specs.Files.{Files}
 use Rattle.modhost.specs.declared.status.Status.{Status}
 use Rattle.modhost.specs.declared.status.Status.TheVariants as status
 use Rattle.modhost.specs.Run.{quits}
-use Rattle.modhost.specs.Pipe.{Reads, Outside, Serves, ServesAll, ServesUpTo}
+use Rattle.modhost.specs.Pipe.{Reads, Outside, ServesAll, ServesUpTo}
 use Rattle.modhost.specs.Serving.{Progress, SourceStops}
 use Rattle.modhost.proofs.Lists.{quits_front}
 use Rattle.modhost.proofs.Served.{known}

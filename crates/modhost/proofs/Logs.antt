@@ -1,5 +1,5 @@
 -- What stands in a log after an append.
-use Rattle.std.proofs.Common.{◌≡◌, ℕ, List, length, take, ◌≤◌, Option, Result, Ok, Err, OnErr, sym, ap, ◌∙◌, subst, arith}
+use Rattle.std.proofs.Common.{◌≡◌, ℕ, List, length, take, Option, Result, Ok, Err, OnErr, sym, subst, arith}
 use Rattle.std.proofs.lemmas.List.{take_all}
 use Rattle.disk_model.specs.declared.file_name.FileName.TheVariants.{Log}
 use Rattle.disk_model.specs.Files.{Files, with_appended, Become}

@@ -1,14 +1,13 @@
 -- What was served over a log that was opened for it.
-use Rattle.std.proofs.Common.{◌≡◌, ◌⊎◌, ℕ, ◌≤◌, List, [], ◌++◌, take, Option, Some, None, refl, sym, ap, ◌∙◌, inl, inr}
+use Rattle.std.proofs.Common.{ℕ, ◌≤◌, List, [], Option, Some, None, ap, ◌∙◌, inl, inr}
 use Rattle.std.specs.Option.{option_map}
 use Rattle.std.proofs.KnownBytes.{Keeps-refl}
-use Rattle.core_types.specs.Causes.{Rose}
 use Rattle.disk_model.specs.declared.file_name.FileName.TheVariants.{Log}
-use Rattle.disk_model.specs.Files.{Files, with_file, Become, Stay}
+use Rattle.disk_model.specs.Files.{Files, with_file, Become}
 use Rattle.modhost.specs.declared.status.Status.{Status}
 use Rattle.modhost.specs.declared.status.Status.TheVariants as status
-use Rattle.modhost.specs.Pipe.{Outside, IsFresh, Serves, ServesSome, ServesAll, ServesUpTo, SendsPart, LogsPart}
-use Rattle.modhost.specs.Serving.{OpenStops, SourceStops}
+use Rattle.modhost.specs.Pipe.{IsFresh, Serves, ServesSome, ServesAll, ServesUpTo, SendsPart, LogsPart}
+use Rattle.modhost.specs.Serving.{OpenStops}
 use Rattle.modhost.specs.Ending.{outside, PipeEnds, ServeEnds}
 use Rattle.modhost.proofs.Stopped.{rose_within}
 

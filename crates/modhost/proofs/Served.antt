@@ -1,22 +1,21 @@
 -- What is served after one request more.
-use Rattle.std.proofs.Common.{◌≡◌, ◌≢◌, ℕ, ◌+◌, ◌-◌, ◌^◌, ◌≤◌, ◌<◌, List, [], ◌∷◌, ◌++◌, length, take, Bool, true, false, Option, Some, None, IfSome, unwrap_or, refl, sym, ap, subst, ◌∙◌, append_assoc, length-append, inl, inr, arith}
+use Rattle.std.proofs.Common.{◌≡◌, ℕ, ◌+◌, ◌-◌, ◌^◌, ◌≤◌, List, [], ◌∷◌, ◌++◌, length, take, false, Option, Some, None, IfSome, unwrap_or, sym, ap, subst, ◌∙◌, append_assoc, length-append, arith}
 use Rattle.std.specs.Option.{option_map}
 use Rattle.std.specs.List.{AllByRecursion, list_any}
-use Rattle.std.specs.Io.KnownBytes.{Appends, Keeps, Consumes, IsAtEnd}
+use Rattle.std.specs.Io.KnownBytes.{Appends, Consumes}
 use Rattle.std.proofs.KnownBytes.{Appends-trans}
-use Rattle.std.proofs.lemmas.List.{append-nil}
 use Rattle.core_types.specs.Keys.{Keys, no_keys}
 use Rattle.resp_codec.specs.Spelling.{multibulk, IsRequest}
-use Rattle.resp_codec.specs.Stream.{Stream, Takes, spelled, BeginsNone, NeverBegins}
+use Rattle.resp_codec.specs.Stream.{Stream, Takes, spelled}
 use Rattle.resp_codec.specs.ReplyText.{text}
 use Rattle.effect_log.specs.Unit.{unit}
 use Rattle.disk_model.specs.declared.file_name.FileName.TheVariants.{Log}
 use Rattle.disk_model.specs.Files.{Files, with_file, with_appended, Become}
 use Rattle.modhost.specs.Does.{does}
-use Rattle.modhost.specs.Run.{keys_after, replies, units, quits}
-use Rattle.modhost.specs.Pipe.{Reads, Outside, Serves, ServesSome}
+use Rattle.modhost.specs.Run.{replies, units, quits}
+use Rattle.modhost.specs.Pipe.{Reads, Outside, Serves}
 use Rattle.modhost.specs.Serving.{Progress}
-use Rattle.modhost.proofs.Lists.{keys_after_push, replies_push, units_push, spelled_push, requests_push, quits_push, quits_front, but_last}
+use Rattle.modhost.proofs.Lists.{keys_after_push, replies_push, units_push, spelled_push, requests_push, quits_push, but_last}
 
 -- the bytes that are told, or none
 abbrev pub known : Option (List ℕ) → List ℕ

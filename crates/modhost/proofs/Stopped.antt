@@ -1,25 +1,22 @@
 -- Why serving stops, and what was served by then.
-use Rattle.std.proofs.Common.{◌≡◌, ◌≢◌, ℕ, ◌+◌, ◌-◌, ◌^◌, ◌≤◌, ◌<◌, List, [], ◌∷◌, ◌++◌, length, take, Bool, true, false, Option, Some, None, IfSome, Result, Ok, Err, OnOk, IfErr, refl, sym, ap, subst, ◌∙◌, append_assoc, length-append, inl, inr, arith}
-use Rattle.std.specs.List.{AllByRecursion, list_any}
-use Rattle.std.specs.Io.KnownBytes.{Appends, Keeps, Consumes, IsAtEnd}
+use Rattle.std.proofs.Common.{◌≡◌, ℕ, ◌+◌, ◌^◌, ◌≤◌, ◌<◌, List, [], ◌∷◌, ◌++◌, length, take, Option, Some, None, IfSome, refl, sym, ap, subst, ◌∙◌, length-append, arith}
+use Rattle.std.specs.Io.KnownBytes.{Appends, Keeps, Consumes}
 use Rattle.std.proofs.KnownBytes.{Appends-trans, Appends-kept, Keeps-refl}
-use Rattle.std.proofs.lemmas.List.{append-nil, take_all}
 use Rattle.std.proofs.Math.Seq.{take-append-add}
 use Rattle.core_types.specs.Keys.{Keys, no_keys}
 use Rattle.core_types.specs.Causes.{Rose}
-use Rattle.resp_codec.specs.Spelling.{multibulk, IsRequest}
-use Rattle.resp_codec.specs.Stream.{Stream, Takes, spelled, BeginsNone, NeverBegins}
+use Rattle.resp_codec.specs.Stream.{Stream, Takes, spelled}
 use Rattle.resp_codec.specs.ReplyText.{text}
 use Rattle.effect_log.specs.Unit.{unit}
 use Rattle.disk_model.specs.declared.file_name.FileName.TheVariants.{Log}
-use Rattle.disk_model.specs.Files.{Files, with_file, with_appended, Become, Stay}
+use Rattle.disk_model.specs.Files.{Files, with_file, Become}
 use Rattle.modhost.specs.declared.status.Status.{Status}
 use Rattle.modhost.specs.declared.status.Status.TheVariants as status
 use Rattle.modhost.specs.Does.{does}
-use Rattle.modhost.specs.Run.{keys_after, replies, units, quits}
-use Rattle.modhost.specs.Pipe.{Reads, Outside, Serves, ServesSome, ServesAll, ServesUpTo, SendsPart, LogsPart, IsTooLong}
-use Rattle.modhost.specs.Serving.{Progress, Change, ServeStops, TakeStops, SourceStops}
-use Rattle.modhost.proofs.Lists.{replies_push, quits_front, quits_push}
+use Rattle.modhost.specs.Run.{keys_after, replies, units}
+use Rattle.modhost.specs.Pipe.{Outside, Serves, ServesSome, IsTooLong}
+use Rattle.modhost.specs.Serving.{Progress, ServeStops, TakeStops, SourceStops}
+use Rattle.modhost.proofs.Lists.{replies_push, quits_front}
 use Rattle.modhost.proofs.Served.{known, reads, logged_more, reads_one, logged_all}
 
 -- the count rose between two later moments

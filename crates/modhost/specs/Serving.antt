@@ -1,7 +1,7 @@
 -- What serving one request and taking one piece of the input come to.
 use Rattle.std.specs.Prelude.{◌≡◌, ◌⊎◌, ℕ, ◌+◌, ◌^◌, ◌<◌, ◌≤◌, List, [], ◌++◌, length, take, false, Option, Some, IfSome}
 use Rattle.std.specs.List.{AllByRecursion, list_any}
-use Rattle.std.specs.Io.KnownBytes.{Appends, Keeps, Consumes, IsAtEnd}
+use Rattle.std.specs.Io.KnownBytes.{Appends, Keeps, Consumes}
 use Rattle.core_types.specs.Keys.{Keys, no_keys}
 use Rattle.core_types.specs.Causes.{Rose}
 use Rattle.resp_codec.specs.ReplyText.{text}
@@ -12,7 +12,7 @@ use Rattle.disk_model.specs.declared.file_name.FileName.TheVariants.{Log}
 use Rattle.disk_model.specs.Files.{Files, with_file, with_appended, Become, Stay}
 use Rattle.modhost.specs.declared.status.Status.{Status}
 use Rattle.modhost.specs.declared.status.Status.TheVariants.{Done, Usage, DirFault, ReadFault, WriteFault, Memory, TooLong, NotBuilt}
-use Rattle.modhost.specs.Does.{Step, does}
+use Rattle.modhost.specs.Does.{Step}
 use Rattle.modhost.specs.Pipe.{Outside, IsFresh, IsTaken, ServesSome, ServesUpTo, SendsPart, LogsPart, IsTooLong}
 use Rattle.modhost.specs.Run.{keys_after, replies, units, quits}
 

@@ -1,5 +1,4 @@
 use Rattle.std.proofs.Common.{arith}
-use Rattle.std.proofs.lemmas.List.{length-drop}
 use Rattle.modhost.proofs.Pieces.{sent_more}
 use Rattle.modhost.proofs.pipe.put_all.Goals as goal
 

@@ -1,9 +1,9 @@
-use Rattle.std.proofs.Common.{◌≡◌, ◌≢◌, [], List, ℕ, Ok, Err, OnOk, IfErr, Result, take, ◌++◌, refl, sym, ap, subst, ◌∙◌, arith, inr, inl}
+use Rattle.std.proofs.Common.{◌≡◌, [], ℕ, Ok, take, ◌++◌, refl, sym, ap, subst, ◌∙◌, arith, inr}
 use Rattle.std.proofs.KnownBytes.{Keeps-refl}
 use Rattle.std.proofs.lemmas.Result.{err_from_is_err_and, on_ok_weaker, IfErr-weaker}
 use Rattle.std.specs.Io.KnownBytes.{Consumes}
 use Rattle.resp_codec.specs.Stream.{Stream}
-use Rattle.resp_codec.specs.Reader.{IsSameUnlessTaken}
+use Rattle.resp_codec.specs.Reader.{SameUnlessTaken}
 use Rattle.resp_codec.specs.declared.reader.Got.{Got}
 use Rattle.modhost.proofs.Lists.{quits_push}
 use Rattle.std.proofs.lemmas.List.{length-take-le}
@@ -25,7 +25,7 @@ pub serving-preserved : goal.serving-preserved
 serving-preserved g c =
     let i = c.serving.invariant in
     let e = c.in_ok-count-in-More.ensures in
-    let same : c.next.new.self ≡ c.serving.reader = subst (λ (r : Got). IsSameUnlessTaken (Ok r) c.serving.reader c.next.new.self) c.in-More.is c.in_ok-words.ensures.same in
+    let same : c.next.new.self ≡ c.serving.reader = subst (λ (r : Got). SameUnlessTaken (Ok r) c.serving.reader c.next.new.self) c.in-More.is c.in_ok-words.ensures.same in
     record {
       progress = fed_more _ c.serving.reader c.feed.new.self _ c.in_ok-count-in-More.count (take c.in_ok-count-in-More.count c.next_piece.new.buffer) _ _ _ _ _ _ _ i.progress e.bytes
           (c.feed.ensures.passed ∙ ap (λ (s : Stream). s.passed) same)
@@ -84,7 +84,7 @@ returns-in_err-count-in-More-clause-stop g c =
 pub returns-then-count-eq0-clause-all : goal.returns-then-count-eq0-clause-all
 returns-then-count-eq0-clause-all g c =
     let e = c.in_ok-count-in-More.ensures in
-    let same : c.next.new.self ≡ c.serving.reader = subst (λ (r : Got). IsSameUnlessTaken (Ok r) c.serving.reader c.next.new.self) c.in-More.is c.in_ok-words.ensures.same in
+    let same : c.next.new.self ≡ c.serving.reader = subst (λ (r : Got). SameUnlessTaken (Ok r) c.serving.reader c.next.new.self) c.in-More.is c.in_ok-words.ensures.same in
     let none : Consumes (g.S.Source.left c.serving.source) (g.S.Source.left c.next_piece.new.source) []
     = subst (λ (n : ℕ). Consumes (g.S.Source.left c.serving.source) (g.S.Source.left c.next_piece.new.source) (take n c.next_piece.new.buffer)) c.if-count-eq0.true e.bytes in
     on_ok_weaker c.at_end.result (λ (nothing : c.next.new.self.rest ≡ []).
@@ -93,7 +93,7 @@ returns-then-count-eq0-clause-all g c =
 pub returns-then-count-eq0-clause-stop : goal.returns-then-count-eq0-clause-stop
 returns-then-count-eq0-clause-stop g c =
     let e = c.in_ok-count-in-More.ensures in
-    let same : c.next.new.self ≡ c.serving.reader = subst (λ (r : Got). IsSameUnlessTaken (Ok r) c.serving.reader c.next.new.self) c.in-More.is c.in_ok-words.ensures.same in
+    let same : c.next.new.self ≡ c.serving.reader = subst (λ (r : Got). SameUnlessTaken (Ok r) c.serving.reader c.next.new.self) c.in-More.is c.in_ok-words.ensures.same in
     let none : Consumes (g.S.Source.left c.serving.source) (g.S.Source.left c.next_piece.new.source) []
     = subst (λ (n : ℕ). Consumes (g.S.Source.left c.serving.source) (g.S.Source.left c.next_piece.new.source) (take n c.next_piece.new.buffer)) c.if-count-eq0.true e.bytes in
     IfErr-weaker c.at_end.result _ _ (λ end cut. not_built end _ _ _ _ _ _ _ cut.0

@@ -1,5 +1,4 @@
 use Rattle.std.proofs.Common.{◌+◌, ◌-◌, ◌*◌, ◌^◌, ◌≤◌, length}
-use Rattle.modhost.specs.Pipe.{Outside}
 use Rattle.modhost.specs.Serving.{Progress}
 use Rattle.modhost.proofs.pipe.serve_source.Given as goal
 
