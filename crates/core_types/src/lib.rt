@@ -6,7 +6,9 @@
 //! Appending is amortized O(1) an item; nothing else here costs more than the bytes it copies.
 #![tactic(auto)]
 
+mod bad_request;
 mod blob;
+mod duplicate;
 mod effect;
 mod line;
 mod no_memory;
@@ -18,7 +20,9 @@ mod sequence;
 #[cfg(test)]
 mod tests;
 
+pub use bad_request::BadRequest;
 pub use blob::Blob;
+pub use duplicate::Duplicate;
 pub use effect::{Args, Effect, Effects};
 pub use line::Line;
 pub use no_memory::NoMemory;

@@ -1,8 +1,9 @@
 //! A list that grows at its end, seen as the list of its items.
 
-ghost use Rattle.std.specs.Prelude.{◌≡◌, ◌==◌, ◌++◌, List, [], ◌∷◌, length, OnOk, OnErr};
+ghost use Rattle.std.specs.Prelude.{◌≡◌, ◌==◌, ◌++◌, List, [], ◌∷◌, length, slice_get, IfOk, OnOk, OnErr};
+ghost use Rattle.std.specs.Option.{option_copied};
 
-use crate::NoMemory;
+use crate::{Duplicate, NoMemory};
 use std::alloc::Global;
 use std::marker::Model;
 
@@ -57,6 +58,13 @@ impl<T> Sequence<T> {
         self.items.is_empty()
     }
 
+    /// The item at a place, counted from 0, or `None` past the end.
+    pub fn get(&self, place: usize) -> Option<&T>
+        ensures at { option_copied result ≡ slice_get self.now place }
+    {
+        self.items.get(place)
+    }
+
     /// The items.
     pub fn as_slice(&self) -> &[T]
         ensures items { result.now ≡ self.now }
@@ -74,4 +82,25 @@ impl<T: Drop> Sequence<T> {
         self.items.push(item)?;
         Ok(())
     }
+}
+
+impl<T: Duplicate + Drop> Sequence<T> {
+    /// A second list of the same items.
+    pub fn copy(&self, alloc: Global) -> Result<Sequence<T>, NoMemory>
+        ensures same { IfOk result (λ sequence. sequence ≡ self.now) }
+    {
+        Ok(Sequence {
+            items: duplicate_items(alloc, &self.items)?,
+        })
+    }
+}
+
+fn duplicate_items<T: Duplicate + Drop>(alloc: Global, items: &[T]) -> Result<Vec<T>, NoMemory>
+    ensures same { IfOk result (λ copies. copies.items ≡ items.now) }
+{
+    let mut copies = Vec::new(alloc);
+    for item in items {
+        copies.push(item.duplicate(alloc)?)?;
+    }
+    Ok(copies)
 }

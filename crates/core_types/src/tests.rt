@@ -30,7 +30,14 @@ fn ample(rt: HostRuntime) -> Result<(), Fail> {
     words.push(key)?;
     let mut effects: Effects = Sequence::new(alloc);
     effects.push(Effect { words })?;
-    assert_eq!(rt; effects.len(), 1);
+    let copy = effects.copy(alloc)?;
+    assert_eq!(rt; copy.len(), 1);
+    let words = copy
+        .get(0)
+        .map(|effect| effect.words.as_slice())
+        .unwrap_or(&[]);
+    assert!(rt; matches!(words, [word] if word.as_slice() == b"key".as_slice()));
+    assert!(rt; copy.get(1).is_none());
     Ok(())
 }
 
