@@ -1,4 +1,4 @@
-use crate::{Dir, FileName, MemoryDir, ReadAllStop, RealDir};
+use crate::{Dir, DirFault, FileName, MemoryDir, ReadAllStop, RealDir};
 use core_types::{Blob, NoMemory};
 use std::alloc::Global;
 use std::os::unix::fs::symlink;
@@ -27,6 +27,16 @@ fn ample(rt: HostRuntime) -> Result<(), Fail> {
     Ok(())
 }
 
+// Makes a file of these bytes, in two pieces.
+fn write(dir: &mut RealDir<HostRuntime>, name: FileName, bytes: &[u8]) -> Result<(), DirFault> {
+    let (front, back) = bytes.split_at(bytes.len() / 2);
+    dir.create(name)?;
+    dir.append(name, front)?;
+    dir.append(name, back)?;
+    dir.sync(name)?;
+    dir.sync_names()
+}
+
 // The same over a folder.
 #[test]
 fn ample_folder(rt: HostRuntime) -> Result<(), Fail> {
@@ -34,13 +44,9 @@ fn ample_folder(rt: HostRuntime) -> Result<(), Fail> {
     empty_folder(&rt, "ample")?;
     let mut dir = RealDir::new(rt, alloc, "ample")?;
     assert!(rt; dir.read_all(alloc, FileName::Log)?.is_none());
-    dir.create(FileName::Log)?;
-    dir.append(FileName::Log, b"one, ")?;
-    dir.append(FileName::Log, b"two")?;
-    dir.sync(FileName::Log)?;
-    dir.sync_names()?;
+    write(&mut dir, FileName::Log, b"some bytes")?;
     let log = dir.read_all(alloc, FileName::Log)?;
-    assert_eq!(rt; bytes(&log), Some(b"one, two".as_slice()));
+    assert_eq!(rt; bytes(&log), Some(b"some bytes".as_slice()));
     fs::remove_dir_all(&rt, "ample")?;
     Ok(())
 }
@@ -84,9 +90,9 @@ fn listed_call_fails(rt: HostRuntime) -> Result<(), Fail> {
     Ok(())
 }
 
-// Each file has its name in the folder, and a second directory goes on with what is there.
+// Each file has its name in the folder.
 #[test]
-fn files_lie_in_the_folder(rt: HostRuntime) -> Result<(), Fail> {
+fn files_have_their_names(rt: HostRuntime) -> Result<(), Fail> {
     let alloc = rt.alloc();
     empty_folder(&rt, "files")?;
     let files = [
@@ -95,23 +101,34 @@ fn files_lie_in_the_folder(rt: HostRuntime) -> Result<(), Fail> {
         (FileName::Dump, "files/dump.rdb"),
         (FileName::DumpTemp, "files/temp.rdb"),
     ];
-    let mut first = RealDir::new(rt, alloc, "files")?;
-    let mut second = RealDir::new(rt, alloc, "files/")?;
+    let mut dir = RealDir::new(rt, alloc, "files/")?;
     for (name, path) in files {
-        first.create(name)?;
-        first.append(name, path.as_bytes())?;
-        second.append(name, b"!")?;
-        second.sync(name)?;
-        let want = format!(in alloc; "{path}!")?;
-        assert_eq!(rt; fs::read_to_string(&rt, path)?.as_str(), want.as_str());
-        second.create(name)?;
-        second.append(name, b"new")?;
-        assert_eq!(rt;
-            bytes(&first.read_all(alloc, name)?),
-            Some(b"new".as_slice())
-        );
+        write(&mut dir, name, path.as_bytes())?;
+        assert_eq!(rt; fs::read_to_string(&rt, path)?.as_str(), path);
     }
     fs::remove_dir_all(&rt, "files")?;
+    Ok(())
+}
+
+// A directory goes on with the bytes that an earlier one left, and a new file is empty.
+#[test]
+fn files_are_found_again(rt: HostRuntime) -> Result<(), Fail> {
+    let alloc = rt.alloc();
+    empty_folder(&rt, "again")?;
+    write(
+        &mut RealDir::new(rt, alloc, "again")?,
+        FileName::Log,
+        b"old",
+    )?;
+    let mut dir = RealDir::new(rt, alloc, "again")?;
+    dir.append(FileName::Log, b", new")?;
+    dir.sync(FileName::Log)?;
+    let text = fs::read_to_string(&rt, "again/appendonly.aof")?;
+    assert_eq!(rt; text.as_str(), "old, new");
+    write(&mut dir, FileName::Log, b"next")?;
+    let text = fs::read_to_string(&rt, "again/appendonly.aof")?;
+    assert_eq!(rt; text.as_str(), "next");
+    fs::remove_dir_all(&rt, "again")?;
     Ok(())
 }
 
@@ -153,9 +170,7 @@ fn file_fails(rt: HostRuntime) -> Result<(), Fail> {
     assert!(rt; matches!(dir.read_all(alloc, FileName::Dump), Err(ReadAllStop::Dir)));
     // A file that is made anew is free of what failed before.
     fs::remove_file(&rt, "failing/appendonly.aof")?;
-    dir.create(FileName::Log)?;
-    dir.append(FileName::Log, b"a")?;
-    dir.sync(FileName::Log)?;
+    write(&mut dir, FileName::Log, b"a")?;
     fs::remove_dir_all(&rt, "failing")?;
     Ok(())
 }
