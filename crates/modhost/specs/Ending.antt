@@ -5,7 +5,7 @@ use Rattle.disk_model.specs.Files.{Files}
 use Rattle.modhost.specs.declared.status.Status.{Status}
 use Rattle.modhost.specs.declared.status.Status.TheVariants.{Done, Usage, DirFault, ReadFault, WriteFault, Memory, TooLong, NotBuilt}
 use Rattle.modhost.specs.Serving.{SourceStops}
-use Rattle.modhost.specs.Pipe.{Outside, IsFresh, IsTaken, IsUntouched, ServesSome, ServesAll, ServesUpTo, SendsPart, LogsPart, OpensNot, IsTooLong}
+use Rattle.modhost.specs.Pipe.{Outside, IsFresh, IsTaken, IsUntouched, ServesSome, ServesAll, ServesUpTo, SendsPart, LogsPart, OpensNot, StopsReading, StopsAtLimit}
 
 -- an outside by what it told
 abbrev pub outside : (input left sent_before sent : Option (List ℕ)) (files_before files : Option Files) → Outside
@@ -17,10 +17,10 @@ abbrev pub PipeEnds : Status → Outside → (dir dir' source source' sink sink'
 PipeEnds Done o dir dir' source source' sink sink' = IsFresh o.files_before × ServesAll o
 PipeEnds (Usage place) o dir dir' source source' sink sink' = ⊥
 PipeEnds DirFault o dir dir' source source' sink sink' = Rose dir dir' × (OpensNot o ⊎ (IsFresh o.files_before × LogsPart o))
-PipeEnds ReadFault o dir dir' source source' sink sink' = Rose source source' × (IsFresh o.files_before × ServesSome o)
+PipeEnds ReadFault o dir dir' source source' sink sink' = Rose source source' × (IsFresh o.files_before × StopsReading o)
 PipeEnds WriteFault o dir dir' source source' sink sink' = Rose sink sink' × (IsFresh o.files_before × SendsPart o)
 PipeEnds Memory o dir dir' source source' sink sink' = IsUntouched o ⊎ (IsFresh o.files_before × ServesSome o)
-PipeEnds TooLong o dir dir' source source' sink sink' = IsTooLong o.input × (IsFresh o.files_before × ServesSome o)
+PipeEnds TooLong o dir dir' source source' sink sink' = IsFresh o.files_before × StopsAtLimit o
 PipeEnds (NotBuilt what) o dir dir' source source' sink sink' =
     ((what ≡ 1) × (IsTaken o.files_before × IsUntouched o)) ⊎ ((what ≡ 2) × (IsFresh o.files_before × ServesUpTo o))
 

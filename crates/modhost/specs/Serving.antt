@@ -13,7 +13,7 @@ use Rattle.disk_model.specs.Files.{Files, with_file, with_appended, Become, Stay
 use Rattle.modhost.specs.declared.status.Status.{Status}
 use Rattle.modhost.specs.declared.status.Status.TheVariants.{Done, Usage, DirFault, ReadFault, WriteFault, Memory, TooLong, NotBuilt}
 use Rattle.modhost.specs.Does.{Step}
-use Rattle.modhost.specs.Pipe.{Outside, IsFresh, IsTaken, ServesSome, ServesUpTo, SendsPart, LogsPart, IsTooLong}
+use Rattle.modhost.specs.Pipe.{Outside, IsFresh, IsTaken, ServesSome, ServesUpTo, SendsPart, LogsPart, StopsReading, StopsAtLimit}
 use Rattle.modhost.specs.Run.{keys_after, replies, units, quits}
 
 -- Why the log of a directory could not be opened, and how that left the directory.
@@ -73,8 +73,8 @@ ServeStops (NotBuilt what) step files sent = ⊥
 -- Why the next piece of the input was not taken.
 abbrev pub TakeStops : Status → Change (List ℕ) → Type 0
 TakeStops Memory input = Unit {0}
-TakeStops ReadFault input = Rose input.faults_old input.faults_new
-TakeStops TooLong input = IfSome input.old (λ left. 0 < length left)
+TakeStops ReadFault input = Rose input.faults_old input.faults_new × Keeps input.old input.new
+TakeStops TooLong input = (more : List ℕ) × Consumes input.old input.new more × (0 < length more)
 TakeStops Done input = ⊥
 TakeStops (Usage place) input = ⊥
 TakeStops DirFault input = ⊥
@@ -89,9 +89,9 @@ IsEmptyLog files = IfSome files (λ known. known.log ≡ Some [])
 abbrev pub SourceStops : Status → Outside → (dir dir' source source' sink sink' : ℕ) → Type 0
 SourceStops Memory o dir dir' source source' sink sink' = ServesSome o
 SourceStops DirFault o dir dir' source source' sink sink' = Rose dir dir' × LogsPart o
-SourceStops ReadFault o dir dir' source source' sink sink' = Rose source source' × ServesSome o
+SourceStops ReadFault o dir dir' source source' sink sink' = Rose source source' × StopsReading o
 SourceStops WriteFault o dir dir' source source' sink sink' = Rose sink sink' × SendsPart o
-SourceStops TooLong o dir dir' source source' sink sink' = IsTooLong o.input × ServesSome o
+SourceStops TooLong o dir dir' source source' sink sink' = StopsAtLimit o
 SourceStops (NotBuilt what) o dir dir' source source' sink sink' = (what ≡ 2) × ServesUpTo o
 SourceStops Done o dir dir' source source' sink sink' = ⊥
 SourceStops (Usage place) o dir dir' source source' sink sink' = ⊥

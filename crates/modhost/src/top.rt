@@ -4,7 +4,7 @@ ghost use Rattle.std.specs.Prelude.{ℕ, ◌≡◌, ◌⊎◌, ◌↔◌, Some, 
 ghost use Rattle.core_types.specs.Causes.{Rose};
 ghost use Rattle.core_types.specs.Keys.{no_keys};
 ghost use Rattle.modhost.specs.Words.{usage_fault};
-ghost use Rattle.modhost.specs.Pipe.{IsFresh, IsTaken, IsUntouched, ServesSome, ServesAll, ServesUpTo, SendsPart, LogsPart, OpensNot, IsTooLong};
+ghost use Rattle.modhost.specs.Pipe.{IsFresh, IsTaken, IsUntouched, ServesSome, ServesAll, ServesUpTo, SendsPart, LogsPart, OpensNot, StopsReading, StopsAtLimit};
 ghost use Rattle.modhost.specs.Ending.{outside, PipeEnds, ServeEnds};
 ghost use Rattle.modhost.specs.Serving.{IsEmptyLog};
 
@@ -57,21 +57,20 @@ pub fn modhost<D: Dir, S: Source, K: Sink>(
     ensures dir_fault { result.status ≡ Status.DirFault → Rose (D.faults dir) (D.faults result.dir) }
     ensures read_fault { result.status ≡ Status.ReadFault → Rose (S.faults source.old) (S.faults source.new) }
     ensures write_fault { result.status ≡ Status.WriteFault → Rose (K.faults sink.old) (K.faults sink.new) }
-    // More than 2^40 bytes came.
-    ensures too_long { result.status ≡ Status.TooLong → IsTooLong (S.left source.old) }
 
     // Opening failed, or some requests were served and of the next one's unit a front is in the log.
     ensures dir_fault_leaves { result.status ≡ Status.DirFault → OpensNot
         (outside (S.left source.old) (S.left source.new) (K.got sink.old) (K.got sink.new) (D.files dir) (D.files result.dir))
         ⊎ (IsFresh (D.files dir) × LogsPart
         (outside (S.left source.old) (S.left source.new) (K.got sink.old) (K.got sink.new) (D.files dir) (D.files result.dir))) }
-    // Some requests were served, and of their replies a front was sent.
+    // Some requests were served, and the last was logged, but of its reply only a front was sent.
     ensures write_fault_leaves { result.status ≡ Status.WriteFault → IsFresh (D.files dir) × SendsPart
         (outside (S.left source.old) (S.left source.new) (K.got sink.old) (K.got sink.new) (D.files dir) (D.files result.dir)) }
-    // Some requests were served.
-    ensures read_fault_leaves { result.status ≡ Status.ReadFault → IsFresh (D.files dir) × ServesSome
+    // All that was taken was served, and more was wanted where the source failed.
+    ensures read_fault_leaves { result.status ≡ Status.ReadFault → IsFresh (D.files dir) × StopsReading
         (outside (S.left source.old) (S.left source.new) (K.got sink.old) (K.got sink.new) (D.files dir) (D.files result.dir)) }
-    ensures too_long_leaves { result.status ≡ Status.TooLong → IsFresh (D.files dir) × ServesSome
+    // 2^40 bytes were taken and served, more were wanted, and more came.
+    ensures too_long { result.status ≡ Status.TooLong → IsFresh (D.files dir) × StopsAtLimit
         (outside (S.left source.old) (S.left source.new) (K.got sink.old) (K.got sink.new) (D.files dir) (D.files result.dir)) }
     // Nothing was touched, or some requests were served.
     ensures memory_leaves { result.status ≡ Status.Memory → IsUntouched

@@ -79,7 +79,7 @@ returns-in_err-count-in-More-clause-stop g c =
     let p = err_from_is_err_and c.from_residual-in_err-count-in-More.result c.from_residual-in_err-count-in-More.ensures.1 in
     let i = c.serving.invariant in
     let e = c.in_err-count-in-More.ensures in
-    rw (p.1, p.2) (stops_taking c.in_err-count-in-More.field-0.0 _ _ _ _ _ _ _ _ _ _ _ _ _ _ _ _ _ i.progress i.source e.too_long e.stop)
+    rw (p.1, p.2) (stops_taking c.in_err-count-in-More.field-0.0 _ _ _ _ _ _ _ _ _ _ _ _ _ _ _ _ _ i.progress (c.in_ok-words.ensures.more (ap Ok c.in-More.is)) i.source e.too_long e.stop)
 
 pub returns-then-count-eq0-clause-all : goal.returns-then-count-eq0-clause-all
 returns-then-count-eq0-clause-all g c =
