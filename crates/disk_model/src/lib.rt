@@ -3,7 +3,7 @@
 //! The trait `Dir` says of each call what the files read as afterwards, where the directory tells its
 //! content, and that a fault is answered only where its count of faults rose. `MemoryDir` tells its content
 //! and fails at the calls it is told to; `RealDir` is a folder of the file system, tells nothing, and makes
-//! no system call that is not owed. But for `read_all` no call takes memory.
+//! no system call that is not owed. No call of a `RealDir` but `read_all` takes memory.
 #![tactic(auto)]
 
 mod dir;

@@ -15,7 +15,8 @@ use std::alloc::Global;
 use std::marker::Model;
 
 /// A directory in memory, which tells its content. Of its calls of `Dir`, counted from 1, those whose
-/// numbers are listed fail. A failed `append` leaves the first half of its bytes, rounded down.
+/// numbers are listed fail. A failed `append` leaves the first half of its bytes, rounded down, and any
+/// other failed call changes nothing. An `append` that finds no memory fails too, and leaves nothing.
 #[derive(Debug, Drop)]
 pub struct MemoryDir {
     alloc: Global,
@@ -96,8 +97,8 @@ impl Dir for MemoryDir {
         ensures fails { (result ≡ Err ReadAllStop.Dir) ↔ NextFails self.old }
         ensures content { IfOk result (λ found. found ≡ file name self.old.files) }
         ensures ok { OnOk result (self.new ≡ called self.old) }
-        ensures memory { result ≡ Err ReadAllStop.Memory → self.new ≡ called self.old }
-        ensures dir { result ≡ Err ReadAllStop.Dir → self.new ≡ failed self.old }
+        ensures err_memory { result ≡ Err ReadAllStop.Memory → self.new ≡ called self.old }
+        ensures err_dir { result ≡ Err ReadAllStop.Dir → self.new ≡ failed self.old }
         ensures cause { HasCauseFor ReadAllStop.Dir self.old.faults self.new.faults result }
     {
         self.begin()?;
