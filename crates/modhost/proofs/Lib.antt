@@ -1,8 +1,10 @@
 pub mod Pieces
 pub mod Logs
 pub mod Lists
+pub mod PiecesOfStream
 pub mod Fed
 pub mod Served
+pub mod Taken
 pub mod Stopped
 pub mod Ended
 pub mod Opened

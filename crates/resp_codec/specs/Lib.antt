@@ -1,8 +1,7 @@
+pub mod Inline
 pub mod Spelling
+pub mod Faults
 pub mod Stream
+pub mod Requests
 pub mod ReplyText
-pub mod Header
-pub mod Line
-pub mod Underway
-pub mod Reading
-pub mod Reader
+pub mod BadReply

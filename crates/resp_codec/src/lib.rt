@@ -1,22 +1,7 @@
-//! RESP2: a stream of bytes to requests, and replies and requests to bytes.
-//!
-//! A `Reader` is seen as the number of bytes it has passed and the bytes fed beyond them. `next` gives the
-//! requests of the joined bytes and no others, in whatever pieces they came; `write_reply` appends exactly
-//! the text of a reply, and `write_request` a spelling that the reader reads back, whatever follows it.
-//!
-//! Reading is linear in the bytes fed, whatever the pieces: the reader keeps its place and the words it has
-//! finished. Writing is linear, and a decimal is written without memory of its own.
 #![tactic(auto)]
 
-mod decimal;
-mod fault;
-mod header;
-mod input;
-mod line;
-mod number;
 mod reader;
-mod reading;
 mod writer;
 
-pub use reader::{Got, Reader, one_reading};
+pub use reader::{Got, Reader, bad_reply};
 pub use writer::{write_reply, write_request};

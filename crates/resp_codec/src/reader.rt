@@ -1,88 +1,70 @@
-//! Requests out of a stream that comes in pieces.
+ghost use Rattle.std.specs.Prelude.{◌≡◌, ◌+◌, ◌^◌, ◌<◌, ◌++◌, List, ℕ, [], length, Ok, IfOk, OnOk, OnErr};
+ghost use Rattle.core_types.specs.declared.bad_request.BadRequest.{BadRequest};
+ghost use Rattle.resp_codec.specs.BadReply.{bad_reply};
 
-ghost use Rattle.std.specs.Prelude.{◌≡◌, ◌<◌, ◌+◌, ◌^◌, ◌++◌, ℕ, List, [], length, Ok, OnOk, OnErr};
-ghost use Rattle.resp_codec.specs.Spelling.{multibulk, IsRequest};
-ghost use Rattle.resp_codec.specs.Stream.{BeginsNone, NeverBegins, Takes};
-
-use crate::reading::Reading;
-use core_types::{Args, NoMemory};
+use core_types::{Args, BadRequest, NoMemory, Reply};
 use std::alloc::Global;
 use std::marker::Model;
 
-#[cfg(test)]
-mod tests;
-
-/// What the bytes fed so far hold next.
 #[derive(Debug, Drop)]
 pub enum Got {
-    /// A whole request: its words.
     Request(Args),
-    /// No whole request yet; more bytes may complete one.
     More,
-    /// No multibulk of at least one word, whatever comes after. Every later `next` says the same.
-    Unread,
+    Bad(BadRequest, u64),
 }
 
-/// A reader of requests, which is fed a stream in pieces.
 #[derive(Debug, Drop)]
 pub struct Reader {
-    reading: Reading,
+    passed: u64,
+    rest: Vec<u8>,
 }
 
 impl Model for Reader {
     ghost use Rattle.resp_codec.specs.Stream.{Stream};
-    ghost use Rattle.resp_codec.specs.Reading.{seen};
 
     ghost Value = { Stream };
 
-    ghost view = { λ r. seen r.reading };
+    ghost view = { λ r. record { passed = r.passed; rest = r.rest.items } };
+}
+
+pub fn bad_reply(alloc: Global, kind: &BadRequest) -> Result<Reply, NoMemory>
+    ensures reply { IfOk result (λ reply. reply ≡ bad_reply kind.now) }
+{
+    Err(NoMemory)
 }
 
 impl Reader {
-    ghost use Rattle.resp_codec.specs.Reader.{SameUnlessTaken};
+    ghost use Rattle.resp_codec.specs.Stream.{Takes, Waits, Refuses, SkipsOnly};
 
-    /// A reader that was fed nothing. Takes no memory.
     pub fn new(alloc: Global) -> Reader
         ensures passed { result.passed ≡ 0 }
         ensures rest { result.rest ≡ [] }
     {
-        Reader {
-            reading: Reading::new(alloc),
-        }
+        Reader { passed: 0, rest: Vec::new(alloc) }
     }
 
-    /// Takes the next piece of the stream. An `Err` changes nothing.
     pub fn feed(&mut self, piece: &[u8]) -> Result<(), NoMemory>
         requires { self.old.passed + length self.old.rest + length piece.now < 2 ^ 64 }
         ensures passed { self.new.passed ≡ self.old.passed }
         ensures ok { OnOk result (self.new.rest ≡ self.old.rest ++ piece.now) }
         ensures err { OnErr result (self.new ≡ self.old) }
     {
-        self.reading.feed(piece)
+        self.rest.extend_from_slice(piece)?;
+        Ok(())
     }
 
-    /// Takes the next whole request. `More`, `Unread` and an `Err` change nothing.
     pub fn next(&mut self) -> Result<Got, NoMemory>
-        ensures request { (words : List (List ℕ)) → result ≡ Ok (Got.Request words)
-            → Takes self.old self.new words }
-        ensures more { result ≡ Ok Got.More → BeginsNone self.old.rest }
-        ensures unread { result ≡ Ok Got.Unread → NeverBegins self.old.rest }
-        ensures same { SameUnlessTaken result self.old self.new }
+        ensures request { (words : List (List ℕ)) → result ≡ Ok (Got.Request words) → Takes self.old self.new words }
+        ensures more { result ≡ Ok Got.More → Waits self.old self.new }
+        ensures bad { (kind : BadRequest) (offset : ℕ) → result ≡ Ok (Got.Bad kind offset) → Refuses self.old self.new kind offset }
+        ensures err { OnErr result (SkipsOnly self.old self.new) }
     {
-        self.reading.next()
+        Err(NoMemory)
     }
 
-    /// The number of bytes after the last whole request.
     pub fn rest(&self) -> u64
         ensures rest { result ≡ length self.now.rest }
     {
-        self.reading.rest()
+        self.rest.len() as u64
     }
 }
-
-/// No request begins another, so a stream of requests has one reading.
-#[tactic(auto, using(crate::proofs::ReaderWords::requests_cancel))]
-pub fn one_reading()
-    ensures { (v w : List (List ℕ)) (a b : List ℕ) → IsRequest v → IsRequest w
-        → multibulk v ++ a ≡ multibulk w ++ b → (v ≡ w) × (a ≡ b) }
-{}
