@@ -1,7 +1,7 @@
-pub mod Pieces
+pub mod HandedOn
 pub mod Logs
 pub mod Lists
-pub mod PiecesOfStream
+pub mod StreamPieces
 pub mod Fed
 pub mod Served
 pub mod Taken

@@ -18,7 +18,7 @@ use Rattle.modhost.specs.Pipe.{Outside, NoneQuits, HasTaken, BeginsWith, Serves,
 use Rattle.modhost.specs.Serving.{Progress}
 use Rattle.modhost.specs.Ending.{outside}
 use Rattle.modhost.proofs.Lists.{keys_after_push, replies_push, units_push, quits_push}
-use Rattle.modhost.proofs.PiecesOfStream.{skips, asks, all-append, are_pieces, requests_skipped, bytes_skipped, requests_asked, bytes_asked}
+use Rattle.modhost.proofs.StreamPieces.{skips, asks, all-append, are_pieces, requests_skipped, bytes_skipped, requests_asked, bytes_asked}
 
 -- the bytes that are told, or none
 abbrev pub known : Option (List ℕ) → List ℕ

@@ -21,7 +21,7 @@ use Rattle.modhost.specs.Run.{keys_after, replies, units}
 use Rattle.modhost.specs.Pipe.{Outside, Serves, ServesSome, LogsPart, SendsPart, SendsPartOfError, Refuses, StopsReading, StopsAtLimit}
 use Rattle.modhost.specs.Serving.{Progress, ServeStops, RefuseEnds, TakeStops, SourceStops}
 use Rattle.modhost.specs.Ending.{outside}
-use Rattle.modhost.proofs.PiecesOfStream.{asks}
+use Rattle.modhost.proofs.StreamPieces.{asks}
 use Rattle.modhost.proofs.Served.{begins, begins_one, logged_asked, logged_more}
 
 -- the count rose between two later moments
