@@ -3,5 +3,11 @@ pub mod Spelling
 pub mod Faults
 pub mod Stream
 pub mod Requests
-pub mod ReplyText
 pub mod BadReply
+pub mod ReplyText
+pub mod Run
+pub mod Number
+pub mod Line
+pub mod Header
+pub mod Underway
+pub mod Reading

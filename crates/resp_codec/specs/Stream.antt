@@ -10,6 +10,10 @@ pub record Stream : Type 0 where
   pub passed : ℕ
   pub rest : List ℕ
 
+-- how many bytes were fed
+abbrev pub fed : Stream → ℕ
+fed s = s.passed + length s.rest
+
 -- These bytes were passed: the stream goes on behind them.
 pub record Passes (old new : Stream) (bytes : List ℕ) : Type 0 where
   pub rest : old.rest ≡ bytes ++ new.rest

@@ -1,21 +1,134 @@
-ghost use Rattle.std.specs.Prelude.{◌≡◌, ◌++◌, OnOk, OnErr};
-ghost use Rattle.resp_codec.specs.ReplyText.{text};
-ghost use Rattle.resp_codec.specs.Spelling.{multibulk, IsRequest};
+//! Replies and requests as the bytes that are sent.
 
-use core_types::{Args, Blob, NoMemory, Reply};
+ghost use Rattle.std.specs.Prelude.{◌≡◌, ◌∷◌, ◌++◌, length, take, OnOk, OnErr};
+ghost use Rattle.std.specs.List.{flat_map};
+ghost use Rattle.std.specs.Fmt.{decimal, signed_decimal};
+ghost use Rattle.resp_codec.specs.ReplyText.{text, part_text, array_header};
+ghost use Rattle.resp_codec.specs.Spelling.{multibulk, IsRequest, bulk, crlf};
 
-/// Appends the text of a reply, by RESP2.
+use crate::decimal::{write_number, write_signed};
+use core_types::{Args, Blob, NoMemory, Part, Replies, Reply};
+
+#[cfg(test)]
+mod tests;
+
+/// Appends the text of a reply, by RESP2. An `Err` leaves the buffer as it was.
 pub fn write_reply(out: &mut Blob, reply: &Reply) -> Result<(), NoMemory>
     ensures ok { OnOk result (out.new ≡ out.old ++ text reply.now) }
     ensures err { OnErr result (out.new ≡ out.old) }
 {
-    Err(NoMemory)
+    let length = out.len();
+    let written = append_reply(out, reply);
+    if written.is_err() {
+        out.truncate(length);
+    }
+    written
 }
 
+/// Appends the words of a request as a multibulk, which a `Reader` reads back whatever follows it.
+/// An `Err` leaves the buffer as it was.
 pub fn write_request(out: &mut Blob, words: &Args) -> Result<(), NoMemory>
     requires { IsRequest words.now }
     ensures ok { OnOk result (out.new ≡ out.old ++ multibulk words.now) }
     ensures err { OnErr result (out.new ≡ out.old) }
 {
-    Err(NoMemory)
+    let length = out.len();
+    let written = append_request(out, words);
+    if written.is_err() {
+        out.truncate(length);
+    }
+    written
+}
+
+// The functions below may leave, on an `Err`, a front of what they append.
+
+fn append_reply(out: &mut Blob, reply: &Reply) -> Result<(), NoMemory>
+    ensures ok { OnOk result (out.new ≡ out.old ++ text reply.now) }
+    ensures err { OnErr result (take (length out.old) out.new ≡ out.old) }
+{
+    match reply {
+        Reply::Simple(line) => append_line(out, b'+', line.as_slice()),
+        Reply::Error(line) => append_line(out, b'-', line.as_slice()),
+        Reply::Int(n) => append_int(out, *n),
+        Reply::Bulk(bytes) => append_bulk(out, bytes),
+        Reply::Null => out.push_slice(b"$-1\r\n"),
+        Reply::Array(replies) => append_array(out, replies),
+        Reply::NullArray => out.push_slice(b"*-1\r\n"),
+    }
+}
+
+fn append_array(out: &mut Blob, replies: &Replies) -> Result<(), NoMemory>
+    ensures ok { OnOk result
+        (out.new ≡ out.old ++ (array_header replies.now.count ++ flat_map part_text replies.now.parts)) }
+    ensures err { OnErr result (take (length out.old) out.new ≡ out.old) }
+{
+    append_header(out, b'*', replies.count())?;
+    for part in replies.parts() {
+        append_part(out, part)?;
+    }
+    Ok(())
+}
+
+fn append_part(out: &mut Blob, part: &Part) -> Result<(), NoMemory>
+    ensures ok { OnOk result (out.new ≡ out.old ++ part_text part.now) }
+    ensures err { OnErr result (take (length out.old) out.new ≡ out.old) }
+{
+    match part {
+        Part::Simple(line) => append_line(out, b'+', line.as_slice()),
+        Part::Error(line) => append_line(out, b'-', line.as_slice()),
+        Part::Int(n) => append_int(out, *n),
+        Part::Bulk(bytes) => append_bulk(out, bytes),
+        Part::Null => out.push_slice(b"$-1\r\n"),
+        Part::NullArray => out.push_slice(b"*-1\r\n"),
+        Part::ArrayOf(count) => append_header(out, b'*', *count),
+    }
+}
+
+fn append_request(out: &mut Blob, words: &Args) -> Result<(), NoMemory>
+    ensures ok { OnOk result (out.new ≡ out.old ++ multibulk words.now) }
+    ensures err { OnErr result (take (length out.old) out.new ≡ out.old) }
+{
+    append_header(out, b'*', words.len() as u64)?;
+    for word in words.as_slice() {
+        append_bulk(out, word)?;
+    }
+    Ok(())
+}
+
+fn append_bulk(out: &mut Blob, bytes: &Blob) -> Result<(), NoMemory>
+    ensures ok { OnOk result (out.new ≡ out.old ++ bulk bytes.now) }
+    ensures err { OnErr result (take (length out.old) out.new ≡ out.old) }
+{
+    append_header(out, b'$', bytes.len() as u64)?;
+    out.push_slice(bytes.as_slice())?;
+    out.push_slice(b"\r\n")
+}
+
+// A mark, and a count in decimal, as a line.
+fn append_header(out: &mut Blob, mark: u8, count: u64) -> Result<(), NoMemory>
+    ensures ok { OnOk result (out.new ≡ out.old ++ (mark ∷ decimal count ++ crlf)) }
+    ensures err { OnErr result (take (length out.old) out.new ≡ out.old) }
+{
+    out.push(mark)?;
+    write_number(out, count)?;
+    out.push_slice(b"\r\n")
+}
+
+fn append_int(out: &mut Blob, n: i64) -> Result<(), NoMemory>
+    ensures ok { OnOk result (out.new ≡ out.old ++ (58 ∷ signed_decimal n ++ crlf)) }
+    ensures err { OnErr result (take (length out.old) out.new ≡ out.old) }
+{
+    out.push(b':')?;
+    write_signed(out, n)?;
+    out.push_slice(b"\r\n")
+}
+
+// A mark and a text, as a line.
+fn append_line(out: &mut Blob, mark: u8, line: &[u8]) -> Result<(), NoMemory>
+    ensures ok { OnOk result (out.new ≡ out.old ++ (mark ∷ line.now ++ crlf)) }
+    ensures err { OnErr result (take (length out.old) out.new ≡ out.old) }
+{
+    out.push(mark)?;
+    out.push_slice(line)?;
+    out.push_slice(b"\r\n")
 }

@@ -1,0 +1,11 @@
+pub mod Cuts
+pub mod Counts
+pub mod Judging
+pub mod Verdicts
+pub mod OneReading
+pub mod InlineWords
+pub mod ReaderHeaders
+pub mod ReaderNumbers
+pub mod ReaderSteps
+pub mod Passing
+pub mod WritingDigits
