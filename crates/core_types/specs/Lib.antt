@@ -3,3 +3,4 @@ pub mod Several
 pub mod Parts
 pub mod Keys
 pub mod Causes
+pub mod BadRequest

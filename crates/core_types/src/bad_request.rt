@@ -1,5 +1,8 @@
 //! What makes a stream of bytes no stream of requests.
 
+ghost use Rattle.std.specs.Prelude.{◌≡◌};
+ghost use Rattle.core_types.specs.BadRequest.{number_of};
+
 /// The kinds of bad requests, by RESP2 and the limits of this server.
 #[derive(Clone, Copy, Debug, PartialEq, Eq)]
 pub enum BadRequest {
@@ -15,4 +18,20 @@ pub enum BadRequest {
     NoLineEnd,
     /// An inline line holds `"` or `'`.
     Quote,
+}
+
+impl BadRequest {
+    /// The number of the kind, from 1, as the line of a fault gives it.
+    pub fn number(self) -> u8
+        ensures number { result ≡ number_of self }
+    {
+        match self {
+            BadRequest::MultibulkLength => 1,
+            BadRequest::BulkLength => 2,
+            BadRequest::ExpectedDollar(_) => 3,
+            BadRequest::LineTooLong => 4,
+            BadRequest::NoLineEnd => 5,
+            BadRequest::Quote => 6,
+        }
+    }
 }

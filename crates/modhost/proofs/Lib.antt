@@ -1,8 +1,10 @@
-pub mod Pieces
+pub mod HandedOn
 pub mod Logs
 pub mod Lists
+pub mod StreamPieces
 pub mod Fed
 pub mod Served
+pub mod Taken
 pub mod Stopped
 pub mod Ended
 pub mod Opened

@@ -1,21 +1,24 @@
 -- What is served after one request more.
-use Rattle.std.proofs.Common.{◌≡◌, ℕ, ◌+◌, ◌-◌, ◌^◌, ◌≤◌, List, [], ◌∷◌, ◌++◌, length, take, false, Option, Some, None, IfSome, unwrap_or, sym, ap, subst, ◌∙◌, append_assoc, length-append, arith}
+use Rattle.std.proofs.Common.{◌≡◌, ◌≢◌, ℕ, ◌+◌, ◌^◌, ◌≤◌, List, [], ◌∷◌, ◌++◌, length, true, false, Option, Some, None, IfSome, unwrap_or, refl, sym, ap, subst, ◌∙◌, append_assoc, length-append, inr, arith}
 use Rattle.std.specs.Option.{option_map}
-use Rattle.std.specs.List.{AllByRecursion, list_any}
-use Rattle.std.specs.Io.KnownBytes.{Appends, Consumes}
-use Rattle.std.proofs.KnownBytes.{Appends-trans}
+use Rattle.std.specs.List.{AllByRecursion, list_any, concat}
+use Rattle.std.specs.Io.KnownBytes.{Appends, Keeps, Consumes, IsAtEnd}
+use Rattle.std.proofs.KnownBytes.{Appends-trans, Appends-kept}
 use Rattle.core_types.specs.Keys.{Keys, no_keys}
-use Rattle.resp_codec.specs.Spelling.{multibulk, IsRequest}
-use Rattle.resp_codec.specs.Stream.{Stream, Takes, spelled}
+use Rattle.resp_codec.specs.Spelling.{Spells, SkipsAll}
+use Rattle.resp_codec.specs.Stream.{Stream, Passes}
+use Rattle.resp_codec.specs.Requests.{Piece, IsPiece, bytes_of, requests_of}
 use Rattle.resp_codec.specs.ReplyText.{text}
 use Rattle.effect_log.specs.Unit.{unit}
 use Rattle.disk_model.specs.declared.file_name.FileName.TheVariants.{Log}
 use Rattle.disk_model.specs.Files.{Files, with_file, with_appended, Become}
 use Rattle.modhost.specs.Does.{does}
-use Rattle.modhost.specs.Run.{replies, units, quits}
-use Rattle.modhost.specs.Pipe.{Reads, Outside, Serves}
+use Rattle.modhost.specs.Run.{keys_after, replies, units, quits}
+use Rattle.modhost.specs.Pipe.{Outside, NoneQuits, HasTaken, BeginsWith, Serves, ServesAll, LastQuits}
 use Rattle.modhost.specs.Serving.{Progress}
-use Rattle.modhost.proofs.Lists.{keys_after_push, replies_push, units_push, spelled_push, requests_push, quits_push, but_last}
+use Rattle.modhost.specs.Ending.{outside}
+use Rattle.modhost.proofs.Lists.{keys_after_push, replies_push, units_push, quits_push}
+use Rattle.modhost.proofs.StreamPieces.{skips, asks, all-append, are_pieces, requests_skipped, bytes_skipped, requests_asked, bytes_asked}
 
 -- the bytes that are told, or none
 abbrev pub known : Option (List ℕ) → List ℕ
@@ -26,68 +29,107 @@ pub logged_more : (u v : List ℕ) (f g h : Option Files) → Become (with_file 
 logged_more u v None g h first second = second ∙ ap (option_map (with_appended Log v)) first
 logged_more u v (Some f) g h first second = second ∙ ap (option_map (with_appended Log v)) first
 
--- these requests, and then the rest of what was fed and what is left
-pub reads : (input left : Option (List ℕ)) (requests : List (List (List ℕ))) (fed : List ℕ) → Consumes input left (spelled requests ++ fed) → AllByRecursion IsRequest requests
-    → list_any quits (take (length requests - 1) requests) ≡ false → length (spelled requests) ≤ 2 ^ 40 → IfSome input (λ i. Reads i requests (fed ++ known left))
-reads None left requests fed c all quit within = tt
-reads (Some i) None requests fed c all quit within = absurd c
-reads (Some i) (Some l) requests fed c all quit within = record { bytes = c ∙ append_assoc (spelled requests) fed l; each = all; before_quit = quit; within = within }
+-- an input of which this was consumed begins with the front of it
+pub begins : (input left : Option (List ℕ)) (front back : List ℕ) → Consumes input left (front ++ back) → IfSome input (λ i. (rest : List ℕ) × (i ≡ front ++ rest))
+begins None left front back c = tt
+begins (Some i) None front back c = absurd c
+begins (Some i) (Some l) front back c = (back ++ l, c ∙ append_assoc front back l)
 
--- the keys, the stream and the outside after a request that was served
-pub record Serving (store store' : Keys) (stream stream' : Stream) (words : List (List ℕ)) (sent sent' : Option (List ℕ)) (files files' : Option Files) : Type 0 where
-  pub takes : Takes stream stream' words
+module _ (store : Keys) (stream stream' : Stream) (bytes : ℕ) (input left sent0 sent : Option (List ℕ)) (files0 files : Option Files) where
+  -- what asks for nothing was passed
+  pub skips_on : Progress store stream bytes (outside input left sent0 sent files0 files) → (skipped : List (List ℕ)) → SkipsAll skipped → Passes stream stream' (concat skipped)
+      → Progress store stream' bytes (outside input left sent0 sent files0 files)
+  skips_on p skipped all passes =
+      let same = requests_skipped p.pieces skipped in
+      let stay = bytes_skipped p.pieces skipped stream.rest stream'.rest passes.rest in
+      let count : length (bytes_of (p.pieces ++ skips skipped)) + length stream'.rest ≡ length (bytes_of p.pieces) + length stream.rest
+      = sym (length-append (bytes_of (p.pieces ++ skips skipped)) stream'.rest) ∙ ap length stay ∙ length-append (bytes_of p.pieces) stream.rest in
+      record {
+        pieces = p.pieces ++ skips skipped;
+        keys = p.keys ∙ ap (λ (r : List (List (List ℕ))). keys_after r no_keys) (sym same);
+        going = ap (list_any quits) same ∙ p.going;
+        takes = record {
+          each = all-append p.pieces (skips skipped) p.takes.each (are_pieces skipped all);
+          bytes = subst (λ (r : List ℕ). Consumes input left r) (sym stay) p.takes.bytes;
+          within = omega (arith, p.takes.within, ap length stay);
+        };
+        serves = record {
+          sent = subst (λ (r : List (List (List ℕ))). Appends sent0 sent (replies r no_keys)) (sym same) p.serves.sent;
+          logged = subst (λ (r : List (List (List ℕ))). Become (with_file Log (units r no_keys)) files0 files) (sym same) p.serves.logged;
+        };
+        passed = omega (arith, passes.passed, p.passed, count, ap length passes.rest, length-append (concat skipped) stream'.rest);
+        taken = p.taken ∙ sym (ap length stay);
+      }
+
+-- the keys, the sink and the directory after a request that was served
+pub record Serving (store store' : Keys) (words : List (List ℕ)) (sent sent' : Option (List ℕ)) (files files' : Option Files) : Type 0 where
   pub keys : store' ≡ (does store words).keys
   pub reply : Appends sent sent' (text (does store words).reply)
   pub logged : Become (with_appended Log (unit (does store words).effects)) files files'
 
-module _ (store store' : Keys) (stream stream' : Stream) (bytes : ℕ) (words : List (List ℕ)) (input left sent0 sent sent' : Option (List ℕ)) (files0 files files' : Option Files) where
-  abbrev before : Outside
-  before = record { input = input; left = left; sent_before = sent0; sent = sent; files_before = files0; files = files }
+module _ (store store' : Keys) (stream stream' : Stream) (bytes : ℕ) (spelling : List ℕ) (words : List (List ℕ)) (input left sent0 sent sent' : Option (List ℕ)) (files0 files files' : Option Files)
+    (p : Progress store stream bytes (outside input left sent0 sent files0 files)) (spells : Spells spelling words) (passes : Passes stream stream' spelling) where
+  abbrev pub one_more : List Piece
+  one_more = p.pieces ++ asks spelling words ∷ []
 
-  abbrev after : Outside
-  after = record { input = input; left = left; sent_before = sent0; sent = sent'; files_before = files0; files = files' }
+  stay : bytes_of one_more ++ stream'.rest ≡ bytes_of p.pieces ++ stream.rest
+  stay = bytes_asked p.pieces spelling words stream.rest stream'.rest passes.rest
 
-  -- what was fed is the requests, one more now, and the rest
-  fed : (p : Progress store stream bytes before) → Takes stream stream' words → spelled p.requests ++ stream.rest ≡ spelled (p.requests ++ words ∷ []) ++ stream'.rest
-  fed p t = ap (λ (r : List ℕ). spelled p.requests ++ r) t.rest ∙ sym (append_assoc (spelled p.requests) (multibulk words) stream'.rest) ∙ ap (λ (r : List ℕ). r ++ stream'.rest) (sym (spelled_push p.requests words))
+  asked : requests_of one_more ≡ requests_of p.pieces ++ words ∷ []
+  asked = requests_asked p.pieces spelling words
 
-  fed_length : (p : Progress store stream bytes before) → Takes stream stream' words → bytes ≡ length (spelled (p.requests ++ words ∷ [])) + length stream'.rest
-  fed_length p t = p.taken ∙ sym (length-append (spelled p.requests) stream.rest) ∙ ap length (fed p t) ∙ length-append (spelled (p.requests ++ words ∷ [])) stream'.rest
+  each : AllByRecursion IsPiece one_more
+  each = all-append p.pieces (asks spelling words ∷ []) p.takes.each (spells, tt)
 
-  consumed : (p : Progress store stream bytes before) → Takes stream stream' words → Consumes input left (spelled (p.requests ++ words ∷ []) ++ stream'.rest)
-  consumed p t = subst (λ (r : List ℕ). Consumes input left r) (fed p t) p.read
+  consumed : Consumes input left (bytes_of one_more ++ stream'.rest)
+  consumed = subst (λ (r : List ℕ). Consumes input left r) (sym stay) p.takes.bytes
 
-  sent_all : (p : Progress store stream bytes before) → Appends sent sent' (text (does store words).reply) → Appends sent0 sent' (replies (p.requests ++ words ∷ []) no_keys)
-  sent_all p reply =
-      let all : replies p.requests no_keys ++ text (does store words).reply ≡ replies (p.requests ++ words ∷ []) no_keys
-      = ap (λ (k : Keys). replies p.requests no_keys ++ text (does k words).reply) p.keys ∙ sym (replies_push p.requests words no_keys) in
-      subst (λ (r : List ℕ). Appends sent0 sent' r) all (Appends-trans sent0 sent sent' _ _ p.sent reply)
+  -- the input begins with the request too
+  pub begins_one : BeginsWith (outside input left sent0 sent' files0 files') one_more
+  begins_one = record { each = each; bytes = begins input left (bytes_of one_more) stream'.rest consumed }
 
-  pub logged_all : (p : Progress store stream bytes before) → Become (with_appended Log (unit (does store words).effects)) files files' → Become (with_file Log (units (p.requests ++ words ∷ []) no_keys)) files0 files'
-  logged_all p logged =
-      let all : units p.requests no_keys ++ unit (does store words).effects ≡ units (p.requests ++ words ∷ []) no_keys
-      = ap (λ (k : Keys). units p.requests no_keys ++ unit (does k words).effects) p.keys ∙ sym (units_push p.requests words no_keys) in
-      subst (λ (u : List ℕ). Become (with_file Log u) files0 files') all (logged_more _ _ files0 files files' p.logged logged)
+  pub has_taken : HasTaken (outside input left sent0 sent' files0 files') one_more stream'.rest
+  has_taken = record { each = each; bytes = consumed; within = omega (arith, p.takes.within, ap length stay) }
 
-  -- the requests with one more, which may be QUIT
-  pub reads_one : (p : Progress store stream bytes before) → Takes stream stream' words → IfSome input (λ i. Reads i (p.requests ++ words ∷ []) (stream'.rest ++ known left))
-  reads_one p t = reads input left (p.requests ++ words ∷ []) stream'.rest (consumed p t) (requests_push p.requests words p.each t.request)
-      (ap (list_any quits) (but_last p.requests words) ∙ p.before_quit) (omega (arith, fed_length p t, p.within))
+  sent_all : Appends sent sent' (text (does store words).reply) → Appends sent0 sent' (replies (requests_of one_more) no_keys)
+  sent_all reply =
+      let all : replies (requests_of p.pieces) no_keys ++ text (does store words).reply ≡ replies (requests_of one_more) no_keys
+      = ap (λ (k : Keys). replies (requests_of p.pieces) no_keys ++ text (does k words).reply) p.keys ∙ sym (replies_push (requests_of p.pieces) words no_keys) ∙ ap (λ (r : List (List (List ℕ))). replies r no_keys) (sym asked) in
+      subst (λ (r : List ℕ). Appends sent0 sent' r) all (Appends-trans sent0 sent sent' _ _ p.serves.sent reply)
 
-  pub served_one : (p : Progress store stream bytes before) → Serving store store' stream stream' words sent sent' files files' → Serves after (p.requests ++ words ∷ []) (stream'.rest ++ known left)
-  served_one p s = record { read = reads_one p s.takes; sent = sent_all p s.reply; logged = logged_all p s.logged }
+  pub logged_asked : Become (with_appended Log (unit (does store words).effects)) files files' → Become (with_file Log (units (requests_of p.pieces ++ words ∷ []) no_keys)) files0 files'
+  logged_asked logged =
+      let all : units (requests_of p.pieces) no_keys ++ unit (does store words).effects ≡ units (requests_of p.pieces ++ words ∷ []) no_keys
+      = ap (λ (k : Keys). units (requests_of p.pieces) no_keys ++ unit (does k words).effects) p.keys ∙ sym (units_push (requests_of p.pieces) words no_keys) in
+      subst (λ (u : List ℕ). Become (with_file Log u) files0 files') all (logged_more _ _ files0 files files' p.serves.logged logged)
 
-  -- a request more was served, and it was not QUIT
-  pub goes_on : (p : Progress store stream bytes before) → Serving store store' stream stream' words sent sent' files files' → quits words ≡ false → Progress store' stream' bytes after
-  goes_on p s not = record {
-    requests = p.requests ++ words ∷ [];
-    keys = s.keys ∙ ap (λ (k : Keys). (does k words).keys) p.keys ∙ sym (keys_after_push p.requests words no_keys);
-    each = requests_push p.requests words p.each s.takes.request;
-    before_quit = quits_push p.requests words p.before_quit ∙ not;
-    read = consumed p s.takes;
-    passed = s.takes.passed ∙ ap (λ (n : ℕ). n + length (multibulk words)) p.passed ∙ sym (ap length (spelled_push p.requests words) ∙ length-append (spelled p.requests) (multibulk words));
-    taken = fed_length p s.takes;
-    within = p.within;
-    sent = sent_all p s.reply;
-    logged = logged_all p s.logged;
+  pub served_one : Serving store store' words sent sent' files files' → Serves (outside input left sent0 sent' files0 files') one_more
+  served_one s = record {
+    sent = sent_all s.reply;
+    logged = subst (λ (r : List (List (List ℕ))). Become (with_file Log (units r no_keys)) files0 files') (sym asked) (logged_asked s.logged);
   }
+
+  -- it was QUIT
+  pub quits_now : Serving store store' words sent sent' files files' → quits words ≡ true → ServesAll (outside input left sent0 sent' files0 files')
+  quits_now s quit = record {
+    pieces = one_more;
+    beyond = stream'.rest;
+    takes = has_taken;
+    serves = served_one s;
+    ended = inr (record { front = requests_of p.pieces; last = words; requests = asked; none_before = p.going; quits_last = quit });
+  }
+
+  -- it was not
+  pub goes_on : Serving store store' words sent sent' files files' → quits words ≡ false → Progress store' stream' bytes (outside input left sent0 sent' files0 files')
+  goes_on s not =
+      let count : length (bytes_of one_more) + length stream'.rest ≡ length (bytes_of p.pieces) + length stream.rest
+      = sym (length-append (bytes_of one_more) stream'.rest) ∙ ap length stay ∙ length-append (bytes_of p.pieces) stream.rest in
+      record {
+        pieces = one_more;
+        keys = s.keys ∙ ap (λ (k : Keys). (does k words).keys) p.keys ∙ sym (keys_after_push (requests_of p.pieces) words no_keys) ∙ ap (λ (r : List (List (List ℕ))). keys_after r no_keys) (sym asked);
+        going = ap (list_any quits) asked ∙ quits_push (requests_of p.pieces) words p.going ∙ not;
+        takes = has_taken;
+        serves = served_one s;
+        passed = omega (arith, passes.passed, p.passed, count, ap length passes.rest, length-append spelling stream'.rest);
+        taken = p.taken ∙ sym (ap length stay);
+      }

@@ -1,23 +1,19 @@
 -- What a run of `pipe` read, sent and logged, each part where its source, sink or directory tells it.
-use Rattle.std.specs.Prelude.{◌≡◌, ◌≢◌, ◌⊎◌, ℕ, ◌-◌, ◌^◌, ◌<◌, ◌≤◌, List, [], ◌∷◌, ◌++◌, length, take, true, false, Option, None, IsSome, IfSome}
+use Rattle.std.specs.Prelude.{◌≡◌, ◌⊎◌, ℕ, ◌+◌, ◌^◌, ◌<◌, ◌≤◌, List, [], ◌∷◌, ◌++◌, length, take, true, false, Option, Some, None, IsSome, IfSome}
 use Rattle.std.specs.List.{AllByRecursion, list_any}
 use Rattle.std.specs.Io.KnownBytes.{Appends, Keeps, Consumes, IsAtEnd}
 use Rattle.core_types.specs.Keys.{no_keys}
-use Rattle.resp_codec.specs.Spelling.{IsRequest}
-use Rattle.resp_codec.specs.Stream.{spelled, BeginsNone}
+use Rattle.core_types.specs.declared.bad_request.BadRequest.{BadRequest}
+use Rattle.resp_codec.specs.Faults.{BadAt}
+use Rattle.resp_codec.specs.Stream.{IsUnfinished}
+use Rattle.resp_codec.specs.Requests.{Piece, IsPiece, bytes_of, requests_of}
 use Rattle.resp_codec.specs.ReplyText.{text}
+use Rattle.resp_codec.specs.BadReply.{bad_reply}
 use Rattle.effect_log.specs.Unit.{unit}
 use Rattle.disk_model.specs.declared.file_name.FileName.TheVariants.{Log}
 use Rattle.disk_model.specs.Files.{Files, with_file, Become, Stay}
 use Rattle.modhost.specs.Does.{does}
 use Rattle.modhost.specs.Run.{keys_after, replies, units, quits}
-
--- An input begins with these requests, within 2^40 bytes, and this follows them. None but the last is QUIT.
-pub record Reads (input : List ℕ) (requests : List (List (List ℕ))) (rest : List ℕ) : Type 0 where
-  pub bytes : input ≡ spelled requests ++ rest
-  pub each : AllByRecursion IsRequest requests
-  pub before_quit : list_any quits (take (length requests - 1) requests) ≡ false
-  pub within : length (spelled requests) ≤ 2 ^ 40
 
 -- no log and no dump was there
 abbrev pub IsFresh : Option Files → Type 0
@@ -42,80 +38,130 @@ pub record IsUntouched (o : Outside) : Type 0 where
   pub sent : Keeps o.sent_before o.sent
   pub files : Stay o.files_before o.files
 
--- These requests were served: their replies were sent, and the log holds their units and nothing else.
-pub record Serves (o : Outside) (requests : List (List (List ℕ))) (rest : List ℕ) : Type 0 where
-  pub read : IfSome o.input (λ input. Reads input requests rest)
-  pub sent : Appends o.sent_before o.sent (replies requests no_keys)
-  pub logged : Become (with_file Log (units requests no_keys)) o.files_before o.files
+-- none of the requests is QUIT
+abbrev pub NoneQuits : List Piece → Type 0
+NoneQuits pieces = list_any quits (requests_of pieces) ≡ false
+
+-- the bytes of the pieces were taken of the source, and these beyond them, 2^40 bytes at the most
+pub record HasTaken (o : Outside) (pieces : List Piece) (beyond : List ℕ) : Type 0 where
+  pub each : AllByRecursion IsPiece pieces
+  pub bytes : Consumes o.input o.left (bytes_of pieces ++ beyond)
+  pub within : length (bytes_of pieces ++ beyond) ≤ 2 ^ 40
+
+-- The input begins with these pieces.
+pub record BeginsWith (o : Outside) (pieces : List Piece) : Type 0 where
+  pub each : AllByRecursion IsPiece pieces
+  pub bytes : IfSome o.input (λ input. (rest : List ℕ) × (input ≡ bytes_of pieces ++ rest))
+
+-- Their requests were served: their replies were sent, and the log holds their units and nothing else.
+pub record Serves (o : Outside) (pieces : List Piece) : Type 0 where
+  pub sent : Appends o.sent_before o.sent (replies (requests_of pieces) no_keys)
+  pub logged : Become (with_file Log (units (requests_of pieces) no_keys)) o.files_before o.files
+
+-- the last request is QUIT, and no other
+pub record LastQuits (pieces : List Piece) : Type 0 where
+  pub front : List (List (List ℕ))
+  pub last : List (List ℕ)
+  pub requests : requests_of pieces ≡ front ++ last ∷ []
+  pub none_before : list_any quits front ≡ false
+  pub quits_last : quits last ≡ true
+
+-- All requests were served, to the end of the input or to QUIT.
+pub record ServesAll (o : Outside) : Type 0 where
+  pub pieces : List Piece
+  pub beyond : List ℕ
+  pub takes : HasTaken o pieces beyond
+  pub serves : Serves o pieces
+  pub ended : (NoneQuits pieces × ((beyond ≡ []) × IsAtEnd o.left)) ⊎ LastQuits pieces
+
+-- All were, to the end of the input, which stands so many bytes into a request.
+pub record CutsOff (o : Outside) (count : ℕ) : Type 0 where
+  pub pieces : List Piece
+  pub beyond : List ℕ
+  pub takes : HasTaken o pieces beyond
+  pub serves : Serves o pieces
+  pub going : NoneQuits pieces
+  pub end : IsAtEnd o.left
+  pub begun : IsUnfinished beyond
+  pub length_is : count ≡ length beyond
+  pub some : 0 < count
+
+-- All were, up to the first bad place, whose error was sent.
+pub record Refuses (o : Outside) (kind : BadRequest) (offset : ℕ) : Type 0 where
+  pub pieces : List Piece
+  pub beyond : List ℕ
+  pub at : ℕ
+  pub takes : HasTaken o pieces beyond
+  pub going : NoneQuits pieces
+  pub bad : BadAt beyond kind at
+  pub place : offset ≡ length (bytes_of pieces) + at
+  pub sent : Appends o.sent_before o.sent (replies (requests_of pieces) no_keys ++ text (bad_reply kind))
+  pub logged : Become (with_file Log (units (requests_of pieces) no_keys)) o.files_before o.files
+
+-- All that was taken was served, but for what begins no request yet: more was wanted, and the source failed.
+pub record StopsReading (o : Outside) : Type 0 where
+  pub pieces : List Piece
+  pub beyond : List ℕ
+  pub takes : HasTaken o pieces beyond
+  pub serves : Serves o pieces
+  pub going : NoneQuits pieces
+  pub begun : IsUnfinished beyond
+
+-- The same, where 2^40 bytes were taken, and more came.
+pub record StopsAtLimit (o : Outside) : Type 0 where
+  pub pieces : List Piece
+  pub beyond : List ℕ
+  pub more : List ℕ
+  pub each : AllByRecursion IsPiece pieces
+  pub bytes : Consumes o.input o.left ((bytes_of pieces ++ beyond) ++ more)
+  pub full : length (bytes_of pieces ++ beyond) ≡ 2 ^ 40
+  pub some : 0 < length more
+  pub serves : Serves o pieces
+  pub going : NoneQuits pieces
+  pub begun : IsUnfinished beyond
 
 -- Some requests were served, none of them QUIT, and the run stopped before the next.
 pub record ServesSome (o : Outside) : Type 0 where
-  pub requests : List (List (List ℕ))
-  pub rest : List ℕ
-  pub serves : Serves o requests rest
-  pub before_quit : list_any quits requests ≡ false
-
--- All that was taken of the source was served, but for bytes that begin no request: more were wanted.
-pub record ServesTaken (o : Outside) (requests : List (List (List ℕ))) (taken : List ℕ) : Type 0 where
-  pub each : AllByRecursion IsRequest requests
-  pub before_quit : list_any quits requests ≡ false
-  pub wanting : BeginsNone taken
-  pub sent : Appends o.sent_before o.sent (replies requests no_keys)
-  pub logged : Become (with_file Log (units requests no_keys)) o.files_before o.files
-
--- The source failed where more was wanted of it.
-pub record StopsReading (o : Outside) : Type 0 where
-  pub requests : List (List (List ℕ))
-  pub taken : List ℕ
-  pub serves : ServesTaken o requests taken
-  pub read : Consumes o.input o.left (spelled requests ++ taken)
-  pub within : length (spelled requests ++ taken) ≤ 2 ^ 40
-
--- 2^40 bytes were taken, more were wanted, and more came.
-pub record StopsAtLimit (o : Outside) : Type 0 where
-  pub requests : List (List (List ℕ))
-  pub taken : List ℕ
-  pub more : List ℕ
-  pub serves : ServesTaken o requests taken
-  pub read : Consumes o.input o.left ((spelled requests ++ taken) ++ more)
-  pub full : length (spelled requests ++ taken) ≡ 2 ^ 40
-  pub some : 0 < length more
-
--- All were: the source was read to its end, or to QUIT.
-pub record ServesAll (o : Outside) : Type 0 where
-  pub requests : List (List (List ℕ))
-  pub rest : List ℕ
-  pub serves : Serves o requests rest
-  pub ended : (IsAtEnd o.left × (rest ≡ [])) ⊎ (list_any quits requests ≡ true)
-
--- All were up to a place that begins no request.
-pub record ServesUpTo (o : Outside) : Type 0 where
-  pub requests : List (List (List ℕ))
-  pub rest : List ℕ
-  pub serves : Serves o requests rest
-  pub before_quit : list_any quits requests ≡ false
-  pub some_left : rest ≢ []
-  pub unread : IfSome o.input (λ _. BeginsNone rest)
-
--- Some were, and the last was logged, but of its reply only a front was sent.
-pub record SendsPart (o : Outside) : Type 0 where
-  pub requests : List (List (List ℕ))
-  pub last : List (List ℕ)
-  pub rest : List ℕ
-  pub read : IfSome o.input (λ input. Reads input (requests ++ last ∷ []) rest)
-  pub sent : (count : ℕ) × Appends o.sent_before o.sent (replies requests no_keys
-      ++ take count (text (does (keys_after requests no_keys) last).reply))
-  pub logged : Become (with_file Log (units (requests ++ last ∷ []) no_keys)) o.files_before o.files
+  pub pieces : List Piece
+  pub begins : BeginsWith o pieces
+  pub serves : Serves o pieces
+  pub going : NoneQuits pieces
 
 -- Some were, and of the next one's unit a front is in the log.
 pub record LogsPart (o : Outside) : Type 0 where
-  pub requests : List (List (List ℕ))
-  pub next : List (List ℕ)
-  pub rest : List ℕ
-  pub read : IfSome o.input (λ input. Reads input (requests ++ next ∷ []) rest)
-  pub sent : Appends o.sent_before o.sent (replies requests no_keys)
-  pub logged : (count : ℕ) × Become (with_file Log (units requests no_keys
-      ++ take count (unit (does (keys_after requests no_keys) next).effects))) o.files_before o.files
+  pub pieces : List Piece
+  pub next : Piece
+  pub words : List (List ℕ)
+  pub begins : BeginsWith o (pieces ++ next ∷ [])
+  pub going : NoneQuits pieces
+  pub request : next.words ≡ Some words
+  pub sent : Appends o.sent_before o.sent (replies (requests_of pieces) no_keys)
+  pub logged : (count : ℕ) × Become (with_file Log (units (requests_of pieces) no_keys
+      ++ take count (unit (does (keys_after (requests_of pieces) no_keys) words).effects))) o.files_before o.files
+
+-- Some were, and the last was logged, but of its reply only a front was sent.
+pub record SendsPart (o : Outside) : Type 0 where
+  pub pieces : List Piece
+  pub last : Piece
+  pub words : List (List ℕ)
+  pub begins : BeginsWith o (pieces ++ last ∷ [])
+  pub going : NoneQuits pieces
+  pub request : last.words ≡ Some words
+  pub sent : (count : ℕ) × Appends o.sent_before o.sent (replies (requests_of pieces) no_keys
+      ++ take count (text (does (keys_after (requests_of pieces) no_keys) words).reply))
+  pub logged : Become (with_file Log (units (requests_of pieces ++ words ∷ []) no_keys)) o.files_before o.files
+
+-- All were, up to the first bad place, of whose error only a front was sent.
+pub record SendsPartOfError (o : Outside) : Type 0 where
+  pub pieces : List Piece
+  pub beyond : List ℕ
+  pub kind : BadRequest
+  pub at : ℕ
+  pub takes : HasTaken o pieces beyond
+  pub going : NoneQuits pieces
+  pub bad : BadAt beyond kind at
+  pub sent : (count : ℕ) × Appends o.sent_before o.sent (replies (requests_of pieces) no_keys ++ take count (text (bad_reply kind)))
+  pub logged : Become (with_file Log (units (requests_of pieces) no_keys)) o.files_before o.files
 
 -- Opening failed: nothing was read or sent, and the log is as it was, or was not there and is empty.
 pub record OpensNot (o : Outside) : Type 0 where

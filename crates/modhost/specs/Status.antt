@@ -1,7 +1,7 @@
 -- How a run ends, as the status of the process.
 use Rattle.std.specs.Prelude.{ℕ}
 use Rattle.modhost.specs.declared.status.Status.{Status}
-use Rattle.modhost.specs.declared.status.Status.TheVariants.{Done, Usage, DirFault, ReadFault, WriteFault, Memory, TooLong, NotBuilt}
+use Rattle.modhost.specs.declared.status.Status.TheVariants.{Done, Usage, DirFault, ReadFault, WriteFault, Memory, Protocol, CutOff, TooLong, NotBuilt}
 
 abbrev pub code_of : Status → ℕ
 code_of Done = 0
@@ -10,5 +10,7 @@ code_of DirFault = 3
 code_of ReadFault = 4
 code_of WriteFault = 5
 code_of Memory = 6
+code_of (Protocol kind offset) = 7
+code_of (CutOff count) = 8
 code_of TooLong = 10
 code_of (NotBuilt what) = 13

@@ -81,7 +81,8 @@ impl<D: Dir> Host<D> {
         }
     }
 
-    /// Serves a request: its unit is in the log, and synced, before its reply is in `out`.
+    /// Serves a request: its unit is in the log before its reply is in `out`. After an `Err` the host is to be
+    /// given up, since its keys may be ahead of its log.
     pub fn serve(&mut self, alloc: Global, words: Args, out: &mut Blob) -> Result<(), Status>
         requires request { IsRequest words }
         requires log { IsThere FileName.Log (D.files self.old.dir) }

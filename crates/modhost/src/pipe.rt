@@ -6,20 +6,21 @@ ghost use Rattle.core_types.specs.Causes.{HasCause};
 ghost use Rattle.core_types.specs.Keys.{no_keys};
 ghost use Rattle.resp_codec.specs.Spelling.{IsRequest};
 ghost use Rattle.resp_codec.specs.ReplyText.{text};
+ghost use Rattle.resp_codec.specs.BadReply.{bad_reply};
 ghost use Rattle.effect_log.specs.Unit.{unit};
 ghost use Rattle.disk_model.specs.Files.{file, with_appended, Become, IsThere};
 ghost use Rattle.modhost.specs.Does.{does};
 ghost use Rattle.modhost.specs.Run.{quits};
 ghost use Rattle.modhost.specs.Pipe.{Outside, ServesAll};
-ghost use Rattle.modhost.specs.Serving.{ServeStops, TakeStops, SourceStops, IsEmptyLog};
+ghost use Rattle.modhost.specs.Serving.{ServeStops, SendStops, RefuseEnds, TakeStops, SourceStops, IsEmptyLog};
 
 use crate::host::Host;
 use crate::sink::{Sink, SinkFault};
 use crate::source::Source;
 use crate::status::Status;
-use core_types::{Args, Blob};
+use core_types::{Args, BadRequest, Blob};
 use disk_model::{Dir, FileName};
-use resp_codec::{Got, Reader};
+use resp_codec::{Got, Reader, bad_reply, write_reply};
 use std::alloc::Global;
 
 /// How many bytes are read at a time, at the most.
@@ -31,8 +32,8 @@ pub const MAX_INPUT: u64 = 1 << 40;
 /// Serves a source over an empty log, and sends each reply once its unit is in the log and synced.
 ///
 /// `Ok` is the end of the input, or QUIT. An `Err` says what stopped it: a fault of the directory, the source
-/// or the sink, want of memory, more than 2^40 bytes, or `NotBuilt(2)` where the input goes on with anything
-/// else than a whole multibulk.
+/// or the sink, want of memory, more than 2^40 bytes, a bad request (whose error is sent), or an end within
+/// a request.
 pub fn serve_source<D: Dir, S: Source, K: Sink>(
     alloc: Global,
     host: &mut Host<D>,
@@ -80,19 +81,55 @@ pub fn serve_source<D: Dir, S: Source, K: Sink>(
                 reader.feed(&buffer[..count])?;
                 taken += count as u64;
             }
-            Got::Unread => return Err(Status::NotBuilt(2)),
+            Got::Bad(kind, offset) => return Err(refuse(alloc, kind, offset, &mut out, sink)),
         }
     }
 }
 
-// What an input comes to that ended here: all of it was served, or a rest is no whole request.
+// What an input comes to that ended here: all of it was served, or it ends within a request.
 fn at_end(reader: &Reader) -> Result<(), Status>
     ensures whole { OnOk result (reader.now.rest ≡ []) }
-    ensures cut { IfErr result (λ status. (status ≡ Status.NotBuilt 2) × (reader.now.rest ≢ [])) }
+    ensures cut { IfErr result (λ status. (status ≡ Status.CutOff (length reader.now.rest)) × (0 < length reader.now.rest)) }
 {
-    if reader.rest() > 0 {
-        return Err(Status::NotBuilt(2));
+    match reader.rest() {
+        0 => Ok(()),
+        count => Err(Status::CutOff(count)),
     }
+}
+
+// Sends the error of a bad request, and says how the run ends.
+fn refuse<K: Sink>(
+    alloc: Global,
+    kind: BadRequest,
+    offset: u64,
+    out: &mut Blob,
+    sink: &mut K,
+) -> Status
+    ensures end { RefuseEnds result kind offset
+        (record { old = K.got sink.old; new = K.got sink.new; faults_old = K.faults sink.old; faults_new = K.faults sink.new }) }
+    ensures later { K.faults sink.old ≤ K.faults sink.new }
+{
+    match send_error(alloc, kind, out, sink) {
+        Ok(()) => Status::Protocol(kind, offset),
+        Err(status) => status,
+    }
+}
+
+// Sends the error of a bad request.
+fn send_error<K: Sink>(
+    alloc: Global,
+    kind: BadRequest,
+    out: &mut Blob,
+    sink: &mut K,
+) -> Result<(), Status>
+    ensures sent { OnOk result (Appends (K.got sink.old) (K.got sink.new) (text (bad_reply kind))) }
+    ensures stop { IfErr result (λ status. SendStops status (text (bad_reply kind))
+        (record { old = K.got sink.old; new = K.got sink.new; faults_old = K.faults sink.old; faults_new = K.faults sink.new })) }
+    ensures later { K.faults sink.old ≤ K.faults sink.new }
+{
+    out.truncate(0);
+    write_reply(out, &bad_reply(alloc, &kind)?)?;
+    put_all(sink, out.as_slice())?;
     Ok(())
 }
 

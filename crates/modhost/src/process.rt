@@ -6,14 +6,15 @@ use crate::status::{Status, status_code};
 use crate::top::modhost;
 use core_types::NoMemory;
 use disk_model::RealDir;
+use std::fs::File;
 use std::process::ExitCode;
 use std::{env, io};
 
 const HELP: &str = "\
 modhost: a keyspace server in the manner of Redis
 
-    modhost pipe DIR    serve the requests of standard input (RESP2, whole multibulks) over a new
-                        append-only log in the folder DIR; replies go to standard output
+    modhost pipe DIR    serve the requests of standard input (RESP2) over a new append-only log in
+                        the folder DIR; replies go to standard output
     modhost --help      print this
     modhost --version   print the version
 ";
@@ -21,7 +22,22 @@ modhost: a keyspace server in the manner of Redis
 const VERSION: &str = "modhost 0.1.0\n";
 
 /// Does what the process was asked to do.
+///
+/// Where a standard stream is closed, the next file to be opened would get its number, and replies could end
+/// up in the log. So three handles are held first: reading or writing one of them fails.
 pub fn run(rt: &HostRuntime) -> Status {
+    match (held(rt), held(rt), held(rt)) {
+        (Ok(_first), Ok(_second), Ok(_third)) => run_held(rt),
+        _ => Status::DirFault,
+    }
+}
+
+// A handle that can be neither read nor written.
+fn held(rt: &HostRuntime) -> io::Result<File> {
+    File::open(rt, "/")
+}
+
+fn run_held(rt: &HostRuntime) -> Status {
     match arguments(rt) {
         Ok(arguments) => run_arguments(rt, &arguments),
         Err(status) => status,

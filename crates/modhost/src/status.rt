@@ -7,7 +7,7 @@ ghost use Rattle.modhost.specs.declared.status.Status.TheVariants as status;
 
 use crate::sink::SinkFault;
 use crate::source::SourceFault;
-use core_types::NoMemory;
+use core_types::{BadRequest, NoMemory};
 use disk_model::{DirFault, ReadAllStop};
 use std::alloc::AllocError;
 use std::fmt;
@@ -28,10 +28,13 @@ pub enum Status {
     WriteFault,
     /// Memory ran out.
     Memory,
+    /// The input goes on with what is no request: why, and the offset of the bad byte.
+    Protocol(BadRequest, u64),
+    /// The input ended so many bytes into a request.
+    CutOff(u64),
     /// The input goes on after 2^40 bytes.
     TooLong,
-    /// What was met is not served yet: 1 for a directory with a log or a dump, 2 for an input that is no
-    /// list of whole multibulks.
+    /// What was met is not served yet: 1 for a directory with a log or a dump.
     NotBuilt(u8),
 }
 
@@ -46,6 +49,8 @@ pub fn status_code(status: &Status) -> u8
         Status::ReadFault => 4,
         Status::WriteFault => 5,
         Status::Memory => 6,
+        Status::Protocol(_, _) => 7,
+        Status::CutOff(_) => 8,
         Status::TooLong => 10,
         Status::NotBuilt(_) => 13,
     }
@@ -61,6 +66,10 @@ impl fmt::Display for Status {
             Status::ReadFault => write!(f, "read fault"),
             Status::WriteFault => write!(f, "write fault"),
             Status::Memory => write!(f, "out of memory"),
+            Status::Protocol(kind, offset) => {
+                write!(f, "protocol error {} at {offset}", kind.number())
+            }
+            Status::CutOff(count) => write!(f, "cut off after {count} bytes"),
             Status::TooLong => write!(f, "input too long"),
             Status::NotBuilt(what) => write!(f, "not built {what}"),
         }

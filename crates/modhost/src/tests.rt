@@ -3,7 +3,7 @@ use crate::sink::{RealSink, Sink};
 use crate::source::{RealSource, Source};
 use crate::status::{Status, status_code};
 use crate::top::modhost;
-use core_types::NoMemory;
+use core_types::{BadRequest, NoMemory};
 use disk_model::{FileName, MemoryDir};
 use std::alloc::Global;
 use std::process::Abort;
@@ -149,29 +149,102 @@ fn a_stream_fails(rt: HostRuntime) -> Result<(), Fail> {
     Ok(())
 }
 
-// What is no whole multibulk ends the run, behind what was served; and nothing is served behind QUIT.
+// Inline lines, requests that get no reply, unknown commands and wrong numbers of arguments.
+#[test]
+fn the_whole_grammar(rt: HostRuntime) -> Result<(), Fail> {
+    let alloc = rt.alloc();
+    let skipped: &[u8] = b"*0\r\n*-1\r\n\r\nPING\n";
+    expect(
+        &rt,
+        &pipe(alloc, skipped, &[], &[], &[])?,
+        Status::Done,
+        b"+PONG\r\n",
+        Some(b""),
+    );
+    let refused: &[u8] = b"NOPE\r\nGET\r\nget a b\n";
+    let errors: &[u8] = b"-ERR unknown command 'NOPE'\r\n\
+        -ERR wrong number of arguments for 'get' command\r\n\
+        -ERR wrong number of arguments for 'get' command\r\n";
+    expect(
+        &rt,
+        &pipe(alloc, refused, &[], &[], &[])?,
+        Status::Done,
+        errors,
+        Some(b""),
+    );
+    let inline: &[u8] = b"set  a\t1\r\nget a\n";
+    let replies: &[u8] = b"+OK\r\n$1\r\n1\r\n";
+    expect(
+        &rt,
+        &pipe(alloc, inline, &[], &[], &[])?,
+        Status::Done,
+        replies,
+        Some(SET_UNIT),
+    );
+    Ok(())
+}
+
+// A bad place, or an end within a request, ends the run behind what was served. Behind QUIT nothing is read.
 #[test]
 fn the_input_stops(rt: HostRuntime) -> Result<(), Fail> {
     let alloc = rt.alloc();
-    let inputs: [&[u8]; 4] = [
-        b"*1\r\n$4\r\nPING\r\nPING\r\n",
-        b"*1\r\n$4\r\nPING\r\n*0\r\n",
-        b"*1\r\n$4\r\nPING\r\n*1\r\n$4\r\nPIN",
-        b"*1\r\n$4\r\nPING\r\n*1\r\n$4\r\nPINGxx",
-    ];
-    for input in inputs {
-        expect(
-            &rt,
-            &pipe(alloc, input, &[], &[], &[])?,
-            Status::NotBuilt(2),
-            b"+PONG\r\n",
-            Some(b""),
-        );
-    }
-    let quit: &[u8] = b"*1\r\n$4\r\nquit\r\n*1\r\n$4\r\nPING\r\nx";
+    let length: &[u8] = b"*3\r\n$3\r\nSET\r\n$1\r\nk\r\n$536870913\r\n";
+    let error: &[u8] = b"-ERR Protocol error: invalid bulk length\r\n";
+    let status = Status::Protocol(BadRequest::BulkLength, 20);
+    expect(
+        &rt,
+        &pipe(alloc, length, &[], &[], &[])?,
+        status,
+        error,
+        Some(b""),
+    );
+    expect(
+        &rt,
+        &pipe(alloc, length, &[], &[], &[1])?,
+        Status::WriteFault,
+        b"",
+        Some(b""),
+    );
+
+    let quoted: &[u8] = b"*1\r\n$4\r\nPING\r\n\r\nsay 'hi'\nPING\n";
+    let error: &[u8] = b"+PONG\r\n-ERR Protocol error: quoted inline words are not served\r\n";
+    let status = Status::Protocol(BadRequest::Quote, 20);
+    expect(
+        &rt,
+        &pipe(alloc, quoted, &[], &[], &[])?,
+        status,
+        error,
+        Some(b""),
+    );
+
+    let cut: &[u8] = b"*2\r\n$3\r\nGET\r\n$1";
+    expect(
+        &rt,
+        &pipe(alloc, cut, &[], &[], &[])?,
+        Status::CutOff(15),
+        b"",
+        Some(b""),
+    );
+    let cut: &[u8] = b"PING\n\nPIN";
+    expect(
+        &rt,
+        &pipe(alloc, cut, &[], &[], &[])?,
+        Status::CutOff(3),
+        b"+PONG\r\n",
+        Some(b""),
+    );
+
+    let quit: &[u8] = b"*1\r\n$4\r\nquit\r\n*1\r\n$4\r\nPING\r\n*x";
     expect(
         &rt,
         &pipe(alloc, quit, &[], &[], &[])?,
+        Status::Done,
+        b"+OK\r\n",
+        Some(b""),
+    );
+    expect(
+        &rt,
+        &pipe(alloc, quit, &[], &[2], &[])?,
         Status::Done,
         b"+OK\r\n",
         Some(b""),
@@ -235,6 +308,12 @@ fn ends_are_told(rt: HostRuntime) -> Result<(), Fail> {
         (Status::ReadFault, 4, "read fault"),
         (Status::WriteFault, 5, "write fault"),
         (Status::Memory, 6, "out of memory"),
+        (
+            Status::Protocol(BadRequest::Quote, 20),
+            7,
+            "protocol error 6 at 20",
+        ),
+        (Status::CutOff(15), 8, "cut off after 15 bytes"),
         (Status::TooLong, 10, "input too long"),
         (Status::NotBuilt(1), 13, "not built 1"),
     ];

@@ -3,8 +3,9 @@
 ghost use Rattle.std.specs.Prelude.{ℕ, ◌≡◌, ◌⊎◌, ◌↔◌, Some, map};
 ghost use Rattle.core_types.specs.Causes.{Rose};
 ghost use Rattle.core_types.specs.Keys.{no_keys};
+ghost use Rattle.core_types.specs.declared.bad_request.BadRequest.{BadRequest};
 ghost use Rattle.modhost.specs.Words.{usage_fault};
-ghost use Rattle.modhost.specs.Pipe.{IsFresh, IsTaken, IsUntouched, ServesSome, ServesAll, ServesUpTo, SendsPart, LogsPart, OpensNot, StopsReading, StopsAtLimit};
+ghost use Rattle.modhost.specs.Pipe.{IsFresh, IsTaken, IsUntouched, ServesSome, ServesAll, CutsOff, Refuses, SendsPart, SendsPartOfError, LogsPart, OpensNot, StopsReading, StopsAtLimit};
 ghost use Rattle.modhost.specs.Ending.{outside, PipeEnds, ServeEnds};
 ghost use Rattle.modhost.specs.Serving.{IsEmptyLog};
 
@@ -48,10 +49,14 @@ pub fn modhost<D: Dir, S: Source, K: Sink>(
     // A log or a dump is there already, and nothing is touched.
     ensures taken { result.status ≡ Status.NotBuilt 1 → IsTaken (D.files dir) × IsUntouched
         (outside (S.left source.old) (S.left source.new) (K.got sink.old) (K.got sink.new) (D.files dir) (D.files result.dir)) }
-    // The input goes on with what is no whole multibulk, and all before that place was served.
-    ensures unread { result.status ≡ Status.NotBuilt 2 → IsFresh (D.files dir) × ServesUpTo
-        (outside (S.left source.old) (S.left source.new) (K.got sink.old) (K.got sink.new) (D.files dir) (D.files result.dir)) }
-    ensures not_built { (what : ℕ) → result.status ≡ Status.NotBuilt what → (what ≡ 1) ⊎ (what ≡ 2) }
+    ensures not_built { (what : ℕ) → result.status ≡ Status.NotBuilt what → what ≡ 1 }
+
+    // The input goes on with a bad place: all before it was served, and its error was sent.
+    ensures protocol { (kind : BadRequest) (offset : ℕ) → result.status ≡ Status.Protocol kind offset → IsFresh (D.files dir) × Refuses
+        (outside (S.left source.old) (S.left source.new) (K.got sink.old) (K.got sink.new) (D.files dir) (D.files result.dir)) kind offset }
+    // The input ended within a request, and all before that was served.
+    ensures cut_off { (count : ℕ) → result.status ≡ Status.CutOff count → IsFresh (D.files dir) × CutsOff
+        (outside (S.left source.old) (S.left source.new) (K.got sink.old) (K.got sink.new) (D.files dir) (D.files result.dir)) count }
 
     // A fault comes only where its object counted one.
     ensures dir_fault { result.status ≡ Status.DirFault → Rose (D.faults dir) (D.faults result.dir) }
@@ -63,9 +68,11 @@ pub fn modhost<D: Dir, S: Source, K: Sink>(
         (outside (S.left source.old) (S.left source.new) (K.got sink.old) (K.got sink.new) (D.files dir) (D.files result.dir))
         ⊎ (IsFresh (D.files dir) × LogsPart
         (outside (S.left source.old) (S.left source.new) (K.got sink.old) (K.got sink.new) (D.files dir) (D.files result.dir))) }
-    // Some requests were served, and the last was logged, but of its reply only a front was sent.
-    ensures write_fault_leaves { result.status ≡ Status.WriteFault → IsFresh (D.files dir) × SendsPart
-        (outside (S.left source.old) (S.left source.new) (K.got sink.old) (K.got sink.new) (D.files dir) (D.files result.dir)) }
+    // Some requests were served, and of the last reply, or of the error of a bad request, only a front was sent.
+    ensures write_fault_leaves { result.status ≡ Status.WriteFault → IsFresh (D.files dir) × (SendsPart
+        (outside (S.left source.old) (S.left source.new) (K.got sink.old) (K.got sink.new) (D.files dir) (D.files result.dir))
+        ⊎ SendsPartOfError
+        (outside (S.left source.old) (S.left source.new) (K.got sink.old) (K.got sink.new) (D.files dir) (D.files result.dir))) }
     // All that was taken was served, and more was wanted where the source failed.
     ensures read_fault_leaves { result.status ≡ Status.ReadFault → IsFresh (D.files dir) × StopsReading
         (outside (S.left source.old) (S.left source.new) (K.got sink.old) (K.got sink.new) (D.files dir) (D.files result.dir)) }

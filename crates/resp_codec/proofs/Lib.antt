@@ -1,5 +1,11 @@
-pub mod ReaderNumbers
+pub mod Cuts
+pub mod Counts
+pub mod Judging
+pub mod Verdicts
+pub mod OneReading
+pub mod InlineWords
 pub mod ReaderHeaders
-pub mod ReaderWords
+pub mod ReaderNumbers
 pub mod ReaderSteps
+pub mod Passing
 pub mod WritingDigits

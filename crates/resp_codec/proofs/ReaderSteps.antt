@@ -1,81 +1,206 @@
 -- What the part that is due says of the stream.
-use Rattle.std.proofs.Common.{◌≡◌, ℕ, ◌+◌, ◌<◌, ◌≤◌, List, [], ◌∷◌, ◌++◌, length, take, drop, sym, ap, ◌∙◌, append_assoc, arith, get_or, inl, inr}
-use Rattle.std.specs.List.{flat_map, AllByRecursion}
-use Rattle.std.proofs.lemmas.Grind.{common_steps}
-use Rattle.std.proofs.lemmas.List.{length-append, length-take, length-take-le, length-drop, length_push, get_or_append_left, get_or_at, take-append-drop, drop_more, flat_map_more}
-use Rattle.resp_codec.specs.Spelling.{crlf, bulk, multibulk, IsWord, IsRequest}
-use Rattle.resp_codec.specs.Stream.{Stream, BeginsNone, NeverBegins, Takes}
-use Rattle.resp_codec.specs.Header.{header, BeginsNoHeader, NeverBeginsHeader}
+use Rattle.std.proofs.Common.{◌≡◌, ◌≢◌, ◌⊎◌, ℕ, zero, suc, ◌+◌, ◌<◌, ◌≤◌, false, List, [], ◌∷◌, ◌++◌, length, take, drop, get_or, slice_get, Some, None, refl, sym, ap, subst, ◌∙◌, append_assoc, append-nil, arith, inl, inr}
+use Rattle.std.specs.Fmt.{decimal, signed_decimal}
+use Rattle.std.specs.List.{flat_map, AllByRecursion, list_any}
+use Rattle.std.proofs.lemmas.List.{length-append, length-take, length-take-le, length-drop, length_push, flat_map_more, take-append-drop, drop_all, drop_more}
+use Rattle.core_types.specs.declared.bad_request.BadRequest.TheVariants as bad
+use Rattle.resp_codec.specs.Inline.{begins_array, IsLine, is_quote, line_words}
+use Rattle.resp_codec.specs.Spelling.{Skips, crlf, bulk, multibulk, IsWord, IsRequest, IsInline}
+use Rattle.resp_codec.specs.Faults.{IsBegun, HeaderDue, BadLength, BadMark, BadWordEnd, LongLine, QuotedLine, IsNoLength, IsHeaderText}
+use Rattle.resp_codec.specs.Stream.{IsUnfinished, SkipsOnly, Takes}
+use Rattle.resp_codec.specs.Number.{IsNoneOrFewer}
+use Rattle.resp_codec.specs.Header.{header, IsHeaderLine}
+use Rattle.resp_codec.specs.Run.{IsFirstQuote}
 use Rattle.resp_codec.specs.declared.line.LineEnd.TheVariants as found
-use Rattle.resp_codec.specs.Line.{IsFound}
-use Rattle.resp_codec.specs.Underway.{IsBegun}
-use Rattle.resp_codec.proofs.ReaderWords.{header_cancels, words_part}
+use Rattle.resp_codec.specs.Line.{IsFound, IsSearchEnd, IsInlineLine}
+use Rattle.resp_codec.specs.Underway.{HasMore}
+use Rattle.resp_codec.proofs.Judging.{judge, judge-open, piece, piece-length, piece_end}
+use Rattle.resp_codec.proofs.Judging.Piece.{NoWord}
+use Rattle.resp_codec.proofs.Verdicts.{IsUnfinished-from_short}
+use Rattle.resp_codec.proofs.ReaderHeaders.{one_at, two_at}
+use Rattle.resp_codec.proofs.InlineWords.{IsRequest-line}
+use Rattle.resp_codec.proofs.Passing.{stream, SkipsOnly-one, Takes-here}
 
--- the next word of a request that begins with fewer words than it has
-record HasNext (tail : List ℕ) : Type 0 where
-  word : List ℕ
-  more : List ℕ
-  fits : IsWord word
-  parts : tail ≡ bulk word ++ more
+some_none : (a : ℕ) → Some a ≢ None
+some_none a e = cc
 
-first_word : (words : List (List ℕ)) (tail b : List ℕ) → 0 < length words → AllByRecursion IsWord words → tail ≡ flat_map bulk words ++ b → HasNext tail
-first_word [] tail b some each e = absurd (omega arith)
-first_word (w ∷ ws) tail b some each e =
-    record { word = w; more = flat_map bulk ws ++ b; fits = each.0; parts = e ∙ append_assoc (bulk w) (flat_map bulk ws) b }
+some_injective : (a b : ℕ) → Some a ≡ Some b → a ≡ b
+some_injective a b e = cc
 
-next_word : (count : ℕ) (done words : List (List ℕ)) (tail more : List ℕ) → IsBegun count done → IsRequest words → header 42 count ++ flat_map bulk done ++ tail ≡ multibulk words ++ more → HasNext tail
-next_word count done words tail more begun request e =
-    let parted = header_cancels 42 count (length words) (flat_map bulk done ++ tail) (flat_map bulk words ++ more) (omega arith) (omega (arith, begun.few)) (omega (arith, request.few)) (sym (append_assoc (header 42 count) (flat_map bulk done) tail) ∙ e ∙ append_assoc (header 42 (length words)) (flat_map bulk words) more) in
-    let part = words_part done words tail more begun.each request.each (omega (arith, begun.more)) parted.1 in
-    first_word part.0 tail more (omega (arith, begun.more, ap (λ (ws : List (List ℕ)). length ws) part.1, length-append done part.0)) part.2 part.3
+-- a header's text is its mark and what a number is read from
+mark_text : (mark end : ℕ) (input : List ℕ) → slice_get input 0 ≡ Some mark → mark ≢ 13 → IsHeaderLine input end → take end input ≡ mark ∷ drop 1 (take end input)
+mark_text mark end [] first other line = absurd (some_none mark (sym first))
+mark_text mark zero (byte ∷ input) first other line =
+    let same : byte ≡ mark = some_injective byte mark first in
+    absurd (other (sym same ∙ ap (λ (bytes : List ℕ). get_or bytes 0 0) line.parts))
+mark_text mark (suc end) (byte ∷ input) first other line = ap (λ (b : ℕ). b ∷ take end input) (some_injective byte mark first)
 
--- where the header of a word is due and does not come, no request comes
-pub BeginsNone-length : (count : ℕ) (done : List (List ℕ)) (tail : List ℕ) → IsBegun count done → BeginsNoHeader 36 0 536870912 tail → BeginsNone (header 42 count ++ flat_map bulk done ++ tail)
-BeginsNone-length count done tail begun none words more request e =
-    let next = next_word count done words tail more begun request e in
-    none (length next.word) ((next.word ++ crlf) ++ next.more) (omega arith) next.fits (next.parts ∙ append_assoc (header 36 (length next.word)) (next.word ++ crlf) next.more)
+header_parts : (mark end : ℕ) (input : List ℕ) → slice_get input 0 ≡ Some mark → mark ≢ 13 → IsHeaderLine input end → input ≡ mark ∷ drop 1 (take end input) ++ crlf ++ drop (end + 2) input
+header_parts mark end input first other line =
+    line.parts ∙ ap (λ (text : List ℕ). text ++ crlf ++ drop (end + 2) input) (mark_text mark end input first other line)
 
-pub NeverBegins-length : (count : ℕ) (done : List (List ℕ)) (tail : List ℕ) → IsBegun count done → NeverBeginsHeader 36 0 536870912 tail → NeverBegins (header 42 count ++ flat_map bulk done ++ tail)
-NeverBegins-length count done tail begun never after =
-    rw append_assoc (BeginsNone-length count done (tail ++ after) begun (never after))
+-- an array of no words is skipped
+pub skips_count : (passed end : ℕ) (input : List ℕ) → slice_get input 0 ≡ Some 42 → IsHeaderLine input end → IsNoneOrFewer (drop 1 (take end input)) → SkipsOnly (stream passed input) (stream (passed + (end + 2)) (drop (end + 2) input))
+skips_count passed end input first line none =
+    let front = take end input ++ crlf in
+    let rest = drop (end + 2) input in
+    let size : length front ≡ end + 2 = omega (arith, length-append (take end input) crlf, length-take-le end input (omega (arith, line.within))) in
+    let whole : front ≡ 42 ∷ signed_decimal none.count ++ crlf =
+    ap (λ (text : List ℕ). text ++ crlf) (mark_text 42 end input first (λ e. omega arith) line ∙ ap (λ (digits : List ℕ). 42 ∷ digits) none.text_is) in
+    SkipsOnly-one passed (passed + (end + 2)) input front rest line.parts (omega arith) (inl record { count = none.count; none = none.none; fits = none.fits; whole = whole })
 
--- a word of this length and CR LF
-record HasWord (len : ℕ) (tail : List ℕ) : Type 0 where
-  word : List ℕ
-  more : List ℕ
-  long : length word ≡ len
-  parts : tail ≡ word ++ (13 ∷ 10 ∷ more)
+pub bad_length : (before input : List ℕ) (end at : ℕ) → IsBegun before → slice_get input 0 ≡ Some 36 → IsHeaderLine input end → IsNoLength (drop 1 (take end input)) → at ≡ length before → BadLength (before ++ input) at
+bad_length before input end at begun first line no_length place =
+    let text = drop 1 (take end input) in
+    let more = drop (end + 2) input in
+    record {
+      before = before;
+      text = text;
+      more = more;
+      begun = begun;
+      header = ap (λ (bytes : List ℕ). before ++ bytes) (header_parts 36 end input first (λ e. omega arith) line) ∙ sym (append_assoc before (36 ∷ text ++ crlf) more) ∙ ap (λ (bytes : List ℕ). bytes ++ more) (sym (append_assoc before (36 ∷ text) crlf));
+      is_text = subst (λ (t : List ℕ). IsHeaderText t) (mark_text 36 end input first (λ e. omega arith) line) line.is_text;
+      no_length = no_length;
+      place = place;
+    }
 
-due_word : (count len : ℕ) (done words : List (List ℕ)) (tail more : List ℕ) → IsBegun count done → len ≤ 536870912 → IsRequest words → header 42 count ++ flat_map bulk done ++ header 36 len ++ tail ≡ multibulk words ++ more → HasWord len tail
-due_word count len done words tail more begun small request e =
-    let next = next_word count done words (header 36 len ++ tail) more begun request (sym (append_assoc (header 42 count ++ flat_map bulk done) (header 36 len) tail) ∙ e) in
-    let w = next.word in
-    let parted = header_cancels 36 len (length w) tail ((w ++ crlf) ++ next.more) (omega arith) (omega arith) (omega (arith, next.fits)) (next.parts ∙ append_assoc (header 36 (length w)) (w ++ crlf) next.more) in
-    record { word = w; more = next.more; long = sym parted.0; parts = parted.1 ∙ append_assoc w crlf next.more }
+pub bad_mark : (before input : List ℕ) (byte at : ℕ) → IsBegun before → slice_get input 0 ≡ Some byte → byte ≢ 36 → at ≡ length before → BadMark (before ++ input) byte at
+bad_mark before [] byte at begun first other place = absurd (some_none byte (sym first))
+bad_mark before (b ∷ input) byte at begun first other place = record {
+  before = before;
+  more = input;
+  begun = begun;
+  header = ap (λ (b : ℕ). before ++ b ∷ input) (some_injective b byte first);
+  other = other;
+  place = place;
+}
 
--- where a word is due and does not come, no request comes
-pub BeginsNone-word : (count len : ℕ) (done : List (List ℕ)) (tail : List ℕ) → IsBegun count done → len ≤ 536870912 → IsFound tail len found.Open → BeginsNone (header 42 count ++ flat_map bulk done ++ header 36 len ++ tail)
-BeginsNone-word count len done tail begun small short words more request e =
-    let due = due_word count len done words tail more begun small request e in
-    omega (arith, ap (λ (bytes : List ℕ). length bytes) due.parts, length-append due.word (13 ∷ 10 ∷ due.more), due.long)
+pub due_length : (before input : List ℕ) → IsBegun before → slice_get input 0 ≡ Some 36 → HeaderDue before input
+due_length before [] begun first = absurd (some_none 36 (sym first))
+due_length before (byte ∷ input) begun first = inr (begun, (input, ap (λ (b : ℕ). b ∷ input) (some_injective byte 36 first)))
 
-no_end : (len : ℕ) (tail after : List ℕ) → HasWord len (tail ++ after) → IsFound tail len found.Missing → ⊥
-no_end len tail after due (inl (less, no_return)) =
-    no_return (sym (get_or_append_left tail after 0 len less) ∙ ap (λ (bytes : List ℕ). get_or bytes len 0) due.parts ∙ get_or_at due.word 13 (10 ∷ due.more) 0 len due.long)
-no_end len tail after due (inr (less, no_feed)) =
-    no_feed (sym (get_or_append_left tail after 0 (len + 1) less) ∙ ap (λ (bytes : List ℕ). get_or bytes (len + 1) 0) due.parts ∙ grind (arith, common_steps, due.long))
+pub IsBegun-words : (count : ℕ) (words : List (List ℕ)) → HasMore count words → IsBegun (header 42 count ++ flat_map bulk words)
+IsBegun-words count words more = record { count = count; words = words; few = more.few; more = more.more; each = more.each; bytes = refl }
 
-pub NeverBegins-word : (count len : ℕ) (done : List (List ℕ)) (tail : List ℕ) → IsBegun count done → len ≤ 536870912 → IsFound tail len found.Missing → NeverBegins (header 42 count ++ flat_map bulk done ++ header 36 len ++ tail)
-NeverBegins-word count len done tail begun small missing after words more request e =
-    let due = due_word count len done words (tail ++ after) more begun small request (sym (append_assoc (header 42 count ++ flat_map bulk done ++ header 36 len) tail after) ∙ e) in
-    no_end len tail after due missing
+-- nothing of the next word came
+pub unfinished_length : (before input : List ℕ) → IsBegun before → slice_get input 0 ≡ None → IsUnfinished (before ++ input)
+unfinished_length before [] begun none = IsUnfinished-from_short (before ++ []) (judge-open before [] begun refl)
+unfinished_length before (byte ∷ input) begun none = absurd (some_none byte none)
 
--- what a part that does not come says of the stream
-pub ruleset parts = (BeginsNone-length, NeverBegins-length, BeginsNone-word, NeverBegins-word)
+-- where a word is due
+abbrev pub word_front : ℕ → List (List ℕ) → ℕ → List ℕ
+word_front count done len = header 42 count ++ flat_map bulk done ++ header 36 len
 
-line_there : (tail : List ℕ) (len : ℕ) → IsFound tail len found.There → tail ≡ take len tail ++ crlf ++ drop (len + 2) tail
-line_there tail len there =
-    grind (arith, common_steps, take-append-drop len tail, drop_more tail len 0, drop_more tail (len + 1) 0, there.0, there.1, there.2)
+open_piece : (input : List ℕ) (len size : ℕ) → IsFound input len found.Open → piece_end (take len input) (drop len input) size ≡ NoWord
+open_piece input len size (inl short) = rw (drop_all len input short) refl
+open_piece input len size (inr (last, return)) =
+    let rest : drop len input ≡ 13 ∷ [] = drop_more input len 0 (omega arith) ∙ ap (λ (more : List ℕ). get_or input len 0 ∷ more) (drop_all (len + 1) input (omega arith)) ∙ ap (λ (b : ℕ). b ∷ []) return in
+    rw rest refl
+
+pub unfinished_word : (count len : ℕ) (done : List (List ℕ)) (input : List ℕ) → HasMore count done → len ≤ 536870912 → IsFound input len found.Open → IsUnfinished (word_front count done len ++ input)
+unfinished_word count len done input more small open_end =
+    let before = header 42 count ++ flat_map bulk done in
+    IsUnfinished-from_short (word_front count done len ++ input) (ap judge (append_assoc before (header 36 len) input)
+      ∙ judge-open before (header 36 len ++ input) (IsBegun-words count done more) (piece-length len input small ∙ open_piece input len (length (header 36 len) + len) open_end))
+
+word_stream : (before word rest : List ℕ) → before ++ header 36 (length word) ++ (word ++ rest) ≡ before ++ 36 ∷ decimal (length word) ++ crlf ++ word ++ rest
+word_stream before word rest =
+    ap (λ (front : List ℕ). front ++ (word ++ rest)) (sym (append_assoc before (36 ∷ decimal (length word)) crlf)) ∙ sym (append_assoc (before ++ 36 ∷ decimal (length word) ++ crlf) word rest)
+
+word_place : (before word : List ℕ) → length (before ++ 36 ∷ decimal (length word) ++ crlf ++ word) ≡ length (before ++ header 36 (length word)) + length word
+word_place before word =
+    length-append (before ++ 36 ∷ decimal (length word) ++ crlf) word ∙ ap (λ (front : List ℕ). length front + length word) (append_assoc before (36 ∷ decimal (length word)) crlf)
+
+no_return : (before word more : List ℕ) (byte : ℕ) → IsBegun before → IsWord word → byte ≢ 13 → BadWordEnd (before ++ header 36 (length word) ++ (word ++ byte ∷ more)) (length (before ++ header 36 (length word)) + length word)
+no_return before word more byte begun small other = record {
+  before = before;
+  word = word;
+  byte = byte;
+  more = more;
+  begun = begun;
+  is_word = small;
+  ends = inl (word_stream before word (byte ∷ more), (other, sym (word_place before word)));
+}
+
+no_feed : (before word more : List ℕ) (byte : ℕ) → IsBegun before → IsWord word → byte ≢ 10 → BadWordEnd (before ++ header 36 (length word) ++ (word ++ 13 ∷ byte ∷ more)) (length (before ++ header 36 (length word)) + (length word + 1))
+no_feed before word more byte begun small other = record {
+  before = before;
+  word = word;
+  byte = byte;
+  more = more;
+  begun = begun;
+  is_word = small;
+  ends = inr (word_stream before word (13 ∷ byte ∷ more), (other, omega (arith, word_place before word)));
+}
+
+-- the same at a word that is the front of what was not read
+at_input : (before input rest : List ℕ) (len place : ℕ) → len ≤ length input → input ≡ take len input ++ rest → BadWordEnd (before ++ header 36 (length (take len input)) ++ (take len input ++ rest)) (length (before ++ header 36 (length (take len input))) + place) →
+    BadWordEnd (before ++ header 36 len ++ input) (length (before ++ header 36 len) + place)
+at_input before input rest len place within parts bad =
+    let here = subst (λ (t : List ℕ). BadWordEnd (before ++ header 36 (length (take len input)) ++ t) (length (before ++ header 36 (length (take len input))) + place)) (sym parts) bad in
+    subst (λ (k : ℕ). BadWordEnd (before ++ header 36 k ++ input) (length (before ++ header 36 k) + place)) (length-take-le len input within) here
+
+pub bad_word_end : (count len place : ℕ) (done : List (List ℕ)) (input : List ℕ) → HasMore count done → len ≤ 536870912 → IsFound input len (found.Missing place) → BadWordEnd (word_front count done len ++ input) (length (word_front count done len) + place)
+bad_word_end count len place done input more small (inl (same, less, other)) =
+    let before = header 42 count ++ flat_map bulk done in
+    let word = take len input in
+    let size : length word ≡ len = length-take-le len input (omega arith) in
+    let byte = get_or input len 0 in
+    let other_byte : byte ≢ 13 = λ e. other (ap (λ (k : ℕ). get_or input k 0) same ∙ e) in
+    let place_is : place ≡ length word = omega arith in
+    at_input before input (byte ∷ drop (len + 1) input) len place (omega arith) (one_at input len byte (omega arith) refl)
+    (rw place_is (no_return before word (drop (len + 1) input) byte (IsBegun-words count done more) (omega arith) other_byte))
+bad_word_end count len place done input more small (inr (next, less, return, other)) =
+    let before = header 42 count ++ flat_map bulk done in
+    let word = take len input in
+    let size : length word ≡ len = length-take-le len input (omega arith) in
+    let byte = get_or input (len + 1) 0 in
+    let other_byte : byte ≢ 10 = λ e. other (ap (λ (k : ℕ). get_or input k 0) next ∙ e) in
+    let place_is : place ≡ length word + 1 = omega arith in
+    at_input before input (13 ∷ byte ∷ drop (len + 2) input) len place (omega arith) (two_at input len 13 byte (omega arith) return refl)
+    (rw place_is (no_feed before word (drop (len + 2) input) byte (IsBegun-words count done more) (omega arith) other_byte))
+
+pub long_line : (input : List ℕ) (at : ℕ) → begins_array input ≡ false → IsSearchEnd 10 65537 input → at ≡ 0 → LongLine input at
+long_line input at no_array searched place = record { no_array = no_array; long = searched.searched.within; unbroken = searched.searched.none; place = place }
+
+inline : (end : ℕ) (input : List ℕ) (words : List (List ℕ)) → IsInlineLine input end → list_any is_quote (take end input) ≡ false → words ≡ line_words (take end input) → IsInline (take end input ++ 10 ∷ []) words
+inline end input words line plain words_are = record { line = take end input; whole = refl; is_line = line.is_line; plain = plain; words_are = words_are }
+
+line_parts : (end : ℕ) (input : List ℕ) → IsInlineLine input end → input ≡ take end input ++ 10 ∷ [] ++ drop (end + 1) input
+line_parts end input line = line.parts ∙ sym (append_assoc (take end input) (10 ∷ []) (drop (end + 1) input))
+
+line_size : (end : ℕ) (input : List ℕ) → IsInlineLine input end → length (take end input ++ 10 ∷ []) ≡ end + 1
+line_size end input line = omega (arith, length-append (take end input) (10 ∷ []), length-take-le end input (omega (arith, line.within)))
+
+pub takes_line : (passed end : ℕ) (input : List ℕ) (words : List (List ℕ)) → IsInlineLine input end → list_any is_quote (take end input) ≡ false → words ≡ line_words (take end input) → 0 < length words →
+    Takes (stream passed input) (stream (passed + (end + 1)) (drop (end + 1) input)) words
+takes_line passed end input words line plain words_are some =
+    let request : IsRequest words = subst (λ (ws : List (List ℕ)). IsRequest ws) (sym words_are) (IsRequest-line (take end input) line.is_line.short (rw words_are at some)) in
+    Takes-here passed (passed + (end + 1)) input (take end input ++ 10 ∷ []) (drop (end + 1) input) words (line_parts end input line) (omega (arith, line_size end input line)) (request, inr (inline end input words line plain words_are))
+
+pub skips_line : (passed end : ℕ) (input : List ℕ) → IsInlineLine input end → list_any is_quote (take end input) ≡ false → [] ≡ line_words (take end input) → SkipsOnly (stream passed input) (stream (passed + (end + 1)) (drop (end + 1) input))
+skips_line passed end input line plain words_are =
+    SkipsOnly-one passed (passed + (end + 1)) input (take end input ++ 10 ∷ []) (drop (end + 1) input) (line_parts end input line) (omega (arith, line_size end input line)) (inr (inline end input [] line plain words_are))
+
+pub bad_quote : (input : List ℕ) (end place at : ℕ) → IsInlineLine input end → IsFirstQuote (take end input) (Some place) → at ≡ place → QuotedLine input at
+bad_quote input end place at line found same =
+    let text = take end input in
+    let quote = get_or text place 0 in
+    let parts : text ≡ take place text ++ quote ∷ drop (place + 1) text = one_at text place quote (omega (arith, found.0)) refl in
+    record {
+      front = take place text;
+      quote = quote;
+      back = drop (place + 1) text;
+      more = drop (end + 1) input;
+      line = line.parts ∙ ap (λ (t : List ℕ). t ++ 10 ∷ drop (end + 1) input) parts;
+      is_line = subst (λ (t : List ℕ). IsLine t) parts line.is_line;
+      quoted = found.2;
+      first = found.1;
+      place = omega (arith, same, length-take-le place text (omega (arith, found.0)));
+    }
+
+line_there : (input : List ℕ) (len : ℕ) → IsFound input len found.There → input ≡ take len input ++ crlf ++ drop (len + 2) input
+line_there input len there = two_at input len 13 10 there.0 there.1 there.2 ∙ sym (append_assoc (take len input) crlf (drop (len + 2) input))
 
 push_word : (count : ℕ) (done : List (List ℕ)) (w more : List ℕ) → header 42 count ++ flat_map bulk done ++ header 36 (length w) ++ (w ++ crlf ++ more) ≡ header 42 count ++ flat_map bulk (done ++ w ∷ []) ++ more
 push_word count done w more =
@@ -84,36 +209,30 @@ push_word count done w more =
     ∙ ap (λ (t : List ℕ). t ++ more) (flat_map_more bulk (header 42 count) done w)
 
 -- a whole word goes from what was not read to what was
-pub begun-push : (count len : ℕ) (done : List (List ℕ)) (tail : List ℕ) → IsFound tail len found.There →
-    header 42 count ++ flat_map bulk done ++ header 36 len ++ tail ≡ header 42 count ++ flat_map bulk (done ++ take len tail ∷ []) ++ drop (len + 2) tail
-begun-push count len done tail there =
+pub begun-push : (count len : ℕ) (done : List (List ℕ)) (input : List ℕ) → IsFound input len found.There →
+    word_front count done len ++ input ≡ header 42 count ++ flat_map bulk (done ++ take len input ∷ []) ++ drop (len + 2) input
+begun-push count len done input there =
     let front = header 42 count ++ flat_map bulk done in
-    let long : length (take len tail) ≡ len = length-take-le len tail (omega (arith, there.0)) in
-    ap (λ (k : ℕ). front ++ header 36 k ++ tail) (sym long) ∙ ap (λ (t : List ℕ). front ++ header 36 (length (take len tail)) ++ t) (line_there tail len there)
-    ∙ push_word count done (take len tail) (drop (len + 2) tail)
+    let long : length (take len input) ≡ len = length-take-le len input (omega (arith, there.0)) in
+    ap (λ (k : ℕ). front ++ header 36 k ++ input) (sym long) ∙ ap (λ (t : List ℕ). front ++ header 36 (length (take len input)) ++ t) (line_there input len there)
+    ∙ push_word count done (take len input) (drop (len + 2) input)
 
-pub AllByRecursion-push : (done : List (List ℕ)) (w : List ℕ) → AllByRecursion IsWord done → IsWord w → AllByRecursion IsWord (done ++ w ∷ [])
+AllByRecursion-push : (done : List (List ℕ)) (w : List ℕ) → AllByRecursion IsWord done → IsWord w → AllByRecursion IsWord (done ++ w ∷ [])
 AllByRecursion-push [] w each small = (small, tt)
 AllByRecursion-push (x ∷ done) w each small = (each.0, AllByRecursion-push done w each.1 small)
 
-abbrev pub stream : ℕ → List ℕ → Stream
-stream passed rest = record { passed = passed; rest = rest }
-
 -- with its last word a request is whole
-pub takes_last : (passed read count len : ℕ) (done : List (List ℕ)) (tail : List ℕ) → IsBegun count done → len ≤ 536870912 → IsFound tail len found.There →
-    read ≡ length (header 42 count ++ flat_map bulk done ++ header 36 len) → count ≤ length (done ++ take len tail ∷ []) →
-    Takes (stream passed (header 42 count ++ flat_map bulk done ++ header 36 len ++ tail)) (stream (passed + (read + (len + 2))) (drop (len + 2) tail)) (done ++ take len tail ∷ [])
-takes_last passed read count len done tail begun small there read_is whole =
-    let words = done ++ take len tail ∷ [] in
-    let count_is : count ≡ length words = omega (arith, begun.more, length_push done (take len tail)) in
-    let parted : header 42 count ++ flat_map bulk done ++ header 36 len ++ tail ≡ multibulk words ++ drop (len + 2) tail =
-    begun-push count len done tail there ∙ ap (λ (k : ℕ). header 42 k ++ flat_map bulk words ++ drop (len + 2) tail) count_is in
-    record {
-      request = record {
-        some = omega (arith, begun.more);
-        few = omega (arith, begun.few);
-        each = AllByRecursion-push done (take len tail) begun.each (omega (arith, length-take len tail));
-      };
-      rest = parted;
-      passed = omega (arith, there.0, ap (λ (bytes : List ℕ). length bytes) parted, length-append (header 42 count ++ flat_map bulk done ++ header 36 len) tail, length-append (multibulk words) (drop (len + 2) tail), length-drop (len + 2) tail);
-    }
+pub takes_last : (passed read count len : ℕ) (done : List (List ℕ)) (input : List ℕ) → HasMore count done → len ≤ 536870912 → IsFound input len found.There → read ≡ length (word_front count done len) → count ≤ length (done ++ take len input ∷ []) →
+    Takes (stream passed (word_front count done len ++ input)) (stream (passed + (read + (len + 2))) (drop (len + 2) input)) (done ++ take len input ∷ [])
+takes_last passed read count len done input begun small there read_is whole =
+    let words = done ++ take len input ∷ [] in
+    let count_is : count ≡ length words = omega (arith, begun.more, length_push done (take len input)) in
+    let parted : word_front count done len ++ input ≡ multibulk words ++ drop (len + 2) input =
+    begun-push count len done input there ∙ ap (λ (k : ℕ). header 42 k ++ flat_map bulk words ++ drop (len + 2) input) count_is in
+    let request : IsRequest words = record {
+      some = omega (arith, begun.more);
+      few = omega (arith, begun.few);
+      each = AllByRecursion-push done (take len input) begun.each (omega (arith, length-take len input));
+    } in
+    Takes-here passed (passed + (read + (len + 2))) (word_front count done len ++ input) (multibulk words) (drop (len + 2) input) words parted
+    (omega (arith, there.0, ap (λ (bytes : List ℕ). length bytes) parted, length-append (word_front count done len) input, length-append (multibulk words) (drop (len + 2) input), length-drop (len + 2) input)) (request, inl refl)

@@ -1,8 +1,13 @@
+pub mod Inline
 pub mod Spelling
+pub mod Faults
 pub mod Stream
+pub mod Requests
+pub mod BadReply
 pub mod ReplyText
-pub mod Header
+pub mod Run
+pub mod Number
 pub mod Line
+pub mod Header
 pub mod Underway
 pub mod Reading
-pub mod Reader

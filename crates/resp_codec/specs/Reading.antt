@@ -1,6 +1,6 @@
 -- What a step of reading says and does.
-use Rattle.std.specs.Prelude.{◌≡◌, ◌<◌, ◌++◌, length}
-use Rattle.resp_codec.specs.Stream.{Stream, BeginsNone, NeverBegins, Takes}
+use Rattle.std.specs.Prelude.{◌≡◌, ℕ, ◌<◌, ◌++◌, length}
+use Rattle.resp_codec.specs.Stream.{Stream, Takes, Waits, Refuses, SkipsOnly}
 use Rattle.resp_codec.specs.Underway.{begun}
 use Rattle.resp_codec.specs.declared.reading.Reading.{Reading}
 use Rattle.resp_codec.specs.declared.reading.Step.{Step}
@@ -10,9 +10,9 @@ use Rattle.resp_codec.specs.declared.reading.Step.TheVariants as step
 abbrev pub seen : Reading → Stream
 seen r = record { passed = r.passed; rest = begun r.stage r.count r.words ++ r.input }
 
--- an answer is so, and only where a request was taken the stream is seen as another
+-- an answer is so, and what a step passed asks for nothing, or is what it took
 abbrev pub Steps : Reading → Reading → Step → Type 0
-Steps old new step.Onward = (seen new ≡ seen old) × (length new.input < length old.input)
+Steps old new step.Onward = SkipsOnly (seen old) (seen new) × (length new.input < length old.input)
 Steps old new (step.Took words) = Takes (seen old) (seen new) words
-Steps old new step.Wait = (seen new ≡ seen old) × BeginsNone (seen old).rest
-Steps old new (step.Bad fault) = (seen new ≡ seen old) × NeverBegins (seen old).rest
+Steps old new step.Wait = Waits (seen old) (seen new)
+Steps old new (step.Bad kind offset) = Refuses (seen old) (seen new) kind offset

@@ -1,7 +1,9 @@
--- How RESP2 spells a request: as an array of bulk strings.
-use Rattle.std.specs.Prelude.{ℕ, ◌<◌, ◌≤◌, List, [], ◌∷◌, ◌++◌, length}
-use Rattle.std.specs.List.{flat_map, AllByRecursion}
-use Rattle.std.specs.Fmt.{decimal}
+-- How RESP2 spells a request: as an array of bulk strings, or as one line.
+use Rattle.std.specs.Prelude.{ℕ, ℤ, pos, ◌≡◌, ◌⊎◌, ◌<◌, ◌≤◌, ◌≤ℤ◌, List, [], ◌∷◌, ◌++◌, length, false, FitsSigned}
+use Rattle.std.specs.Int.{w64}
+use Rattle.std.specs.List.{flat_map, AllByRecursion, list_any}
+use Rattle.std.specs.Fmt.{decimal, signed_decimal}
+use Rattle.resp_codec.specs.Inline.{IsLine, is_quote, line_words}
 
 -- what ends a line
 abbrev pub crlf : List ℕ
@@ -24,3 +26,30 @@ pub record IsRequest (words : List (List ℕ)) : Type 0 where
   pub some : 0 < length words
   pub few : length words ≤ 1048576
   pub each : AllByRecursion IsWord words
+
+-- a line, with its LF, that has these words and no quote
+pub record IsInline (bytes : List ℕ) (words : List (List ℕ)) : Type 0 where
+  pub line : List ℕ
+  pub whole : bytes ≡ line ++ 10 ∷ []
+  pub is_line : IsLine line
+  pub plain : list_any is_quote line ≡ false
+  pub words_are : words ≡ line_words line
+
+-- The bytes are one request of these words, all of them.
+abbrev pub Spells : List ℕ → List (List ℕ) → Type 0
+Spells bytes words = IsRequest words × ((bytes ≡ multibulk words) ⊎ IsInline bytes words)
+
+-- an array of no words, or of fewer
+pub record IsEmptyArray (bytes : List ℕ) : Type 0 where
+  pub count : ℤ
+  pub none : count ≤ℤ pos 0
+  pub fits : FitsSigned w64 count
+  pub whole : bytes ≡ 42 ∷ signed_decimal count ++ crlf
+
+-- The bytes ask for nothing, all of them: an array without words, or a line without words. They get no reply.
+abbrev pub Skips : List ℕ → Type 0
+Skips bytes = IsEmptyArray bytes ⊎ IsInline bytes []
+
+-- some of these, one after the other
+abbrev pub SkipsAll : List (List ℕ) → Type 0
+SkipsAll pieces = AllByRecursion Skips pieces

@@ -1,22 +1,20 @@
 //! The bytes that were fed and not yet read.
 
-ghost use Rattle.std.specs.Prelude.{◌≡◌, ◌<◌, ◌≤◌, ◌^◌, ◌++◌, [], length, drop, take, IfOk, OnOk, OnErr};
+ghost use Rattle.std.specs.Prelude.{◌≡◌, ◌≤◌, ◌++◌, List, ℕ, [], length, drop, take, slice_get, OnOk, OnErr};
 
 use crate::header::{Header, judge};
-use crate::line::{LineEnd, find_return, line_end};
+use crate::line::{CR, LineEnd, find, line_end};
 use bytes::BytesMut;
-use core_types::{Blob, NoMemory};
+use core_types::NoMemory;
 use std::alloc::Global;
 use std::marker::Model;
-
-// A block with more room than this is given back once no byte is left in it.
-const MOST_ROOM: usize = 65_536;
 
 /// Bytes that grow at their end and are read from their front.
 #[derive(Debug, Drop)]
 pub(crate) struct Input {
     bytes: BytesMut,
-    // So many at the front were searched for a CR, and none was there.
+    // Which byte is looked for, and among how many at the front it was and was not there.
+    sought: u8,
     searched: usize,
 }
 
@@ -28,12 +26,12 @@ impl Model for Input {
 
     ghost view = { λ i. i.bytes.items };
 
-    ghost invariant = { λ i. IsSearched i.searched i.bytes.items };
+    ghost invariant = { λ i. IsSearched i.sought i.searched i.bytes.items };
 }
 
 impl Input {
     ghost use Rattle.resp_codec.specs.Header.{Judges};
-    ghost use Rattle.resp_codec.specs.Line.{IsFound};
+    ghost use Rattle.resp_codec.specs.Line.{IsFound, IsSearchEnd};
 
     /// No bytes. Takes no memory.
     pub(crate) fn new(alloc: Global) -> Input
@@ -41,6 +39,7 @@ impl Input {
     {
         Input {
             bytes: BytesMut::new(alloc),
+            sought: CR,
             searched: 0,
         }
     }
@@ -61,19 +60,19 @@ impl Input {
         self.bytes.len()
     }
 
-    /// What stands at a place where CR LF is due.
-    pub(crate) fn line_end(&self, place: usize) -> LineEnd
-        ensures found { IsFound self.now place result }
+    /// The first byte.
+    pub(crate) fn first(&self) -> Option<u8>
+        ensures first { result ≡ slice_get self.now 0 }
     {
-        line_end(self.bytes.as_slice(), place)
+        self.bytes.as_slice().first().copied()
     }
 
-    /// A copy of the first bytes, so many.
-    pub(crate) fn front(&self, alloc: Global, count: usize) -> Result<Blob, NoMemory>
+    /// The first bytes, so many.
+    pub(crate) fn front(&self, count: usize) -> &[u8]
         requires { count ≤ length self.now }
-        ensures front { IfOk result (λ blob. blob ≡ take count self.now) }
+        ensures front { result.now ≡ take count self.now }
     {
-        Blob::from_slice(alloc, &self.bytes.as_slice()[..count])
+        &self.bytes.as_slice()[..count]
     }
 
     /// Drops the first bytes, so many.
@@ -83,33 +82,37 @@ impl Input {
     {
         self.bytes.advance(count);
         self.searched = 0;
-        if self.bytes.is_empty() {
-            self.give_back();
-        }
     }
 
-    // Keeps the room for the next bytes, unless it is much.
-    fn give_back(&mut self)
-        requires { self.old ≡ [] }
-        ensures empty { self.new ≡ [] }
-    {
-        self.bytes.clear();
-        if self.bytes.capacity() > MOST_ROOM {
-            self.bytes = BytesMut::new(*self.bytes.allocator());
-        }
-    }
-
-    /// What stands at the front, where a header is due with this mark and a number in this range.
-    pub(crate) fn header(&mut self, mark: u8, least: u64, most: u64) -> Header
-        requires mark { 13 < mark }
-        requires most { most < 2 ^ 63 }
+    /// How many bytes stand before the first such byte, or as many as it was looked for among.
+    pub(crate) fn find(&mut self, sought: u8) -> usize
         ensures same { self.new ≡ self.old }
-        ensures judged { Judges mark least most self.old result }
+        ensures end { IsSearchEnd sought result self.old }
     {
-        let bytes = self.bytes.as_slice();
-        let end = find_return(bytes, self.searched);
-        let header = judge(bytes, end, mark, least, most);
+        let searched = if self.sought == sought {
+            self.searched
+        } else {
+            0
+        };
+        let end = find(self.bytes.as_slice(), searched, sought);
+        self.sought = sought;
         self.searched = end;
-        header
+        end
+    }
+
+    /// What stands at a place where CR LF is due.
+    pub(crate) fn line_end(&self, place: usize) -> LineEnd
+        ensures found { IsFound self.now place result }
+    {
+        line_end(self.bytes.as_slice(), place)
+    }
+
+    /// What stands at the front, where a header is due.
+    pub(crate) fn header(&mut self) -> Header
+        ensures same { self.new ≡ self.old }
+        ensures judged { Judges self.old result }
+    {
+        let end = self.find(CR);
+        judge(self.bytes.as_slice(), end)
     }
 }

@@ -1,12 +1,12 @@
-//! The ends of lines: CR LF.
+//! Where lines end: at CR LF, or at LF alone.
 
 ghost use Rattle.resp_codec.specs.Line.{IsSearched, IsSearchEnd, IsFound};
 
-const CR: u8 = b'\r';
+pub(crate) const CR: u8 = b'\r';
 
-const LF: u8 = b'\n';
+pub(crate) const LF: u8 = b'\n';
 
-/// A CR is looked for among the first bytes, so many.
+/// The byte that ends a line is looked for among the first bytes, so many.
 pub(crate) const FARTHEST: usize = 65_537;
 
 /// What stands where CR LF is due.
@@ -16,18 +16,18 @@ pub(crate) enum LineEnd {
     Open,
     /// CR LF.
     There,
-    /// A byte that is not the CR, or not the LF.
-    Missing,
+    /// At this place a byte that is not the CR, or not the LF.
+    Missing(usize),
 }
 
-/// How many bytes stand before the first CR, or as many as a CR was looked for among.
-pub(crate) fn find_return(bytes: &[u8], searched: usize) -> usize
-    requires { IsSearched searched bytes.now }
-    ensures { IsSearchEnd result bytes.now }
+/// How many bytes stand before the first such byte, or as many as it was looked for among.
+pub(crate) fn find(bytes: &[u8], searched: usize, sought: u8) -> usize
+    requires { IsSearched sought searched bytes.now }
+    ensures { IsSearchEnd sought result bytes.now }
 {
     let end = bytes.len().min(FARTHEST);
     for place in searched..end {
-        if bytes[place] == CR {
+        if bytes[place] == sought {
             return place;
         }
     }
@@ -41,6 +41,7 @@ pub(crate) fn line_end(bytes: &[u8], place: usize) -> LineEnd
     match bytes.get(place..) {
         None | Some([]) | Some([CR]) => LineEnd::Open,
         Some([CR, LF, ..]) => LineEnd::There,
-        Some(_) => LineEnd::Missing,
+        Some([CR, ..]) => LineEnd::Missing(place + 1),
+        Some(_) => LineEnd::Missing(place),
     }
 }

@@ -1,18 +1,52 @@
 //! Numbers as RESP2 writes them: in decimal digits, each in one way.
 
-ghost use Rattle.std.specs.Prelude.{◌≡◌, ◌<◌, ◌≤◌, ◌^◌, ℕ, length, IfSome, IfNone, OnSome};
+ghost use Rattle.std.specs.Prelude.{◌≡◌, ◌≢◌, ◌<◌, ◌≤◌, ◌^◌, ℕ, length, IfSome, IfNone, OnSome};
 ghost use Rattle.std.specs.Fmt.{decimal};
 ghost use Rattle.std.specs.Str.Parse.{AllDigits, digits_value};
+ghost use Rattle.resp_codec.specs.Faults.{IsNoCount, IsNoLength};
+ghost use Rattle.resp_codec.specs.Number.{IsCount, IsLength};
 
-// How many digits the largest number below 2^63 has.
+const MOST_WORDS: u64 = 1_048_576;
+
+const LONGEST_WORD: u64 = 536_870_912;
+
+// The absolute value of the least i64.
+const LEAST: u64 = 1 << 63;
+
+// How many digits the largest number up to 2^63 has.
 const MOST_DIGITS: usize = 19;
 
-/// The number below 2^63 whose decimal this text is, or `None` where it is no such decimal.
+/// How many words an array has whose count is this text, where 0 stands for each number below 1 too, or
+/// `None` where an array has no such count.
+#[tactic(auto, using(crate::proofs::ReaderNumbers::counts))]
+pub(crate) fn read_count(text: &[u8]) -> Option<u64>
+    ensures some { IfSome result (IsCount text.now) }
+    ensures none { IfNone result (IsNoCount text.now) }
+{
+    if text.is_empty() || text[0] != b'-' {
+        return read_number(text, MOST_WORDS);
+    }
+    match read_number(&text[1..], LEAST) {
+        Some(number) if number > 0 => Some(0),
+        _ => None,
+    }
+}
+
+/// How many bytes a word has whose length is this text, or `None` where a word has no such length.
+pub(crate) fn read_length(text: &[u8]) -> Option<u64>
+    ensures some { IfSome result (IsLength text.now) }
+    ensures none { IfNone result (IsNoLength text.now) }
+{
+    read_number(text, LONGEST_WORD)
+}
+
+// The number up to `most` whose decimal this text is, or `None` where it is no such decimal.
 #[tactic(auto, using(crate::proofs::ReaderNumbers::decimals))]
-pub(crate) fn read_number(text: &[u8]) -> Option<u64>
-    ensures below { IfSome result (λ n. n < 2 ^ 63) }
+fn read_number(text: &[u8], most: u64) -> Option<u64>
+    requires { most ≤ 2 ^ 63 }
+    ensures most { IfSome result (λ n. n ≤ most) }
     ensures text { IfSome result (λ n. text.now ≡ decimal n) }
-    ensures none { IfNone result ((n : ℕ) → n < 2 ^ 63 → text.now ≡ decimal n → ⊥) }
+    ensures none { IfNone result ((n : ℕ) → n ≤ most → text.now ≢ decimal n) }
 {
     if text.is_empty() || text.len() > MOST_DIGITS {
         return None;
@@ -21,7 +55,7 @@ pub(crate) fn read_number(text: &[u8]) -> Option<u64>
         return None;
     }
     let number = value_of_digits(text)?;
-    if number >= 1 << 63 {
+    if number > most {
         return None;
     }
     Some(number)

@@ -1,11 +1,13 @@
 //! Requests out of a stream that comes in pieces.
 
-ghost use Rattle.std.specs.Prelude.{◌≡◌, ◌<◌, ◌+◌, ◌^◌, ◌++◌, ℕ, List, [], length, Ok, OnOk, OnErr};
-ghost use Rattle.resp_codec.specs.Spelling.{multibulk, IsRequest};
-ghost use Rattle.resp_codec.specs.Stream.{BeginsNone, NeverBegins, Takes};
+ghost use Rattle.std.specs.Prelude.{◌≡◌, ◌≢◌, ◌<◌, ◌+◌, ◌^◌, ◌++◌, ℕ, List, [], length, Ok, OnOk, OnErr};
+ghost use Rattle.resp_codec.specs.Spelling.{Spells, Skips};
+ghost use Rattle.resp_codec.specs.Faults.{BadAt};
+ghost use Rattle.resp_codec.specs.Stream.{Takes, Waits, Refuses, SkipsOnly};
+ghost use Rattle.core_types.specs.declared.bad_request.BadRequest.{BadRequest};
 
 use crate::reading::Reading;
-use core_types::{Args, NoMemory};
+use core_types::{Args, BadRequest, NoMemory};
 use std::alloc::Global;
 use std::marker::Model;
 
@@ -19,8 +21,9 @@ pub enum Got {
     Request(Args),
     /// No whole request yet; more bytes may complete one.
     More,
-    /// No multibulk of at least one word, whatever comes after. Every later `next` says the same.
-    Unread,
+    /// No request, whatever comes after: why, and the offset of the bad byte in the whole stream. Every
+    /// later `next` says the same.
+    Bad(BadRequest, u64),
 }
 
 /// A reader of requests, which is fed a stream in pieces.
@@ -39,8 +42,6 @@ impl Model for Reader {
 }
 
 impl Reader {
-    ghost use Rattle.resp_codec.specs.Reader.{SameUnlessTaken};
-
     /// A reader that was fed nothing. Takes no memory.
     pub fn new(alloc: Global) -> Reader
         ensures passed { result.passed ≡ 0 }
@@ -61,18 +62,20 @@ impl Reader {
         self.reading.feed(piece)
     }
 
-    /// Takes the next whole request. `More`, `Unread` and an `Err` change nothing.
+    /// Takes the next whole request. What asks for nothing, an array or a line without words, is passed
+    /// over, and on an `Err` no more than that.
     pub fn next(&mut self) -> Result<Got, NoMemory>
         ensures request { (words : List (List ℕ)) → result ≡ Ok (Got.Request words)
             → Takes self.old self.new words }
-        ensures more { result ≡ Ok Got.More → BeginsNone self.old.rest }
-        ensures unread { result ≡ Ok Got.Unread → NeverBegins self.old.rest }
-        ensures same { SameUnlessTaken result self.old self.new }
+        ensures more { result ≡ Ok Got.More → Waits self.old self.new }
+        ensures bad { (kind : BadRequest) (offset : ℕ) → result ≡ Ok (Got.Bad kind offset)
+            → Refuses self.old self.new kind offset }
+        ensures err { OnErr result (SkipsOnly self.old self.new) }
     {
         self.reading.next()
     }
 
-    /// The number of bytes after the last whole request.
+    /// The number of bytes after the last request that was passed.
     pub fn rest(&self) -> u64
         ensures rest { result ≡ length self.now.rest }
     {
@@ -80,9 +83,19 @@ impl Reader {
     }
 }
 
-/// No request begins another, so a stream of requests has one reading.
-#[tactic(auto, using(crate::proofs::ReaderWords::requests_cancel))]
+/// A stream has one reading: no spelling begins another, what is skipped is no spelling and begins no other,
+/// a bad place is the only one, stays when more bytes come, and stands in nothing that is whole.
 pub fn one_reading()
-    ensures { (v w : List (List ℕ)) (a b : List ℕ) → IsRequest v → IsRequest w
-        → multibulk v ++ a ≡ multibulk w ++ b → (v ≡ w) × (a ≡ b) }
+    ensures requests { (v w : List (List ℕ)) (a b x y : List ℕ) → Spells a v → Spells b w
+        → a ++ x ≡ b ++ y → (a ≡ b) × (v ≡ w) }
+    ensures skips { (a b x y : List ℕ) → Skips a → Skips b → a ++ x ≡ b ++ y → a ≡ b }
+    ensures apart { (v : List (List ℕ)) (a b x y : List ℕ) → Spells a v → Skips b → a ++ x ≢ b ++ y }
+    ensures fault { (bytes : List ℕ) (kind other : BadRequest) (at place : ℕ) → BadAt bytes kind at
+        → BadAt bytes other place → (kind ≡ other) × (at ≡ place) }
+    ensures fault_stays { (bytes more : List ℕ) (kind : BadRequest) (at : ℕ) → BadAt bytes kind at
+        → BadAt (bytes ++ more) kind at }
+    ensures request_without_fault { (v : List (List ℕ)) (a x : List ℕ) (kind : BadRequest) (at : ℕ)
+        → Spells a v → ¬ BadAt (a ++ x) kind at }
+    ensures skip_without_fault { (a x : List ℕ) (kind : BadRequest) (at : ℕ) → Skips a
+        → ¬ BadAt (a ++ x) kind at }
 {}

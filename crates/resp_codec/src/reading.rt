@@ -1,28 +1,27 @@
 //! One request after the other, by steps.
 
-ghost use Rattle.std.specs.Prelude.{◌≡◌, ◌<◌, ◌≤◌, ◌+◌, ◌^◌, ◌++◌, ℕ, List, [], length, Ok, OnOk, OnErr, IfOk};
-ghost use Rattle.resp_codec.specs.Stream.{BeginsNone, NeverBegins, Takes};
+ghost use Rattle.std.specs.Prelude.{◌≡◌, ◌<◌, ◌≤◌, ◌+◌, ◌^◌, ◌++◌, ℕ, List, [], length, slice_get, Some, false, Ok, OnOk, OnErr, IfOk};
+ghost use Rattle.resp_codec.specs.Inline.{begins_array};
+ghost use Rattle.resp_codec.specs.Faults.{BadAt};
+ghost use Rattle.resp_codec.specs.Stream.{Takes, Waits, Refuses, SkipsOnly};
 ghost use Rattle.resp_codec.specs.Underway.{begun, IsDue, IsDue-prop};
-ghost use Rattle.resp_codec.specs.Reader.{SameUnlessTaken};
+ghost use Rattle.core_types.specs.declared.bad_request.BadRequest.{BadRequest};
 
-use crate::fault::Fault;
 use crate::header::Header;
+use crate::inline::{first_quote, line_words};
 use crate::input::Input;
-use crate::line::LineEnd;
+use crate::line::{FARTHEST, LF, LineEnd};
+use crate::number::{read_count, read_length};
 use crate::reader::Got;
-use core_types::{Args, NoMemory, Sequence};
+use core_types::{Args, BadRequest, Blob, NoMemory, Sequence};
 use std::alloc::Global;
 use std::mem;
-
-const MOST_WORDS: u64 = 1_048_576;
-
-const LONGEST_WORD: u64 = 536_870_912;
 
 /// What is due next.
 #[derive(Debug, Drop)]
 pub(crate) enum Stage {
-    /// The header of a request.
-    Count,
+    /// A request.
+    Request,
     /// The header of a word.
     Length,
     /// So many bytes of a word, and CR LF.
@@ -32,21 +31,21 @@ pub(crate) enum Stage {
 /// What a step came to.
 #[derive(Debug, Drop)]
 pub(crate) enum Step {
-    /// A part of the request was read.
+    /// A part of a request was read, or a request that asks for nothing.
     Onward,
     /// A request ended: its words.
     Took(Args),
     /// The next part is not whole yet.
     Wait,
-    /// No request stands here, whatever comes after.
-    Bad(Fault),
+    /// No request stands here, whatever comes after: why, and the offset in the whole stream.
+    Bad(BadRequest, u64),
 }
 
 /// A stream up to the last byte that came: what was passed, what was read of the next request, and the rest.
 #[derive(Debug, Drop)]
 pub(crate) struct Reading {
     alloc: Global,
-    // The bytes of the requests that were taken.
+    // The bytes of the requests that were passed.
     passed: u64,
     // The bytes that were read of the next request.
     read: u64,
@@ -62,7 +61,8 @@ pub(crate) struct Reading {
 
 impl Reading {
     ghost use Rattle.resp_codec.specs.Reading.{seen, Steps};
-    ghost use Rattle.resp_codec.specs.Line.{IsFound};
+    ghost use Rattle.resp_codec.specs.Line.{IsFound, IsInlineLine};
+    ghost use Rattle.resp_codec.specs.Header.{IsHeaderLine};
 
     /// Nothing came yet.
     pub(crate) fn new(alloc: Global) -> Reading
@@ -73,7 +73,7 @@ impl Reading {
             alloc,
             passed: 0,
             read: 0,
-            stage: Stage::Count,
+            stage: Stage::Request,
             count: 0,
             words: Sequence::new(alloc),
             input: Input::new(alloc),
@@ -90,7 +90,7 @@ impl Reading {
         self.input.feed(piece)
     }
 
-    /// The number of bytes after the last request that was taken.
+    /// The number of bytes after the last request that was passed.
     pub(crate) fn rest(&self) -> u64
         ensures rest { result ≡ length (seen self.now).rest }
     {
@@ -101,16 +101,17 @@ impl Reading {
     pub(crate) fn next(&mut self) -> Result<Got, NoMemory>
         ensures request { (words : List (List ℕ)) → result ≡ Ok (Got.Request words)
             → Takes (seen self.old) (seen self.new) words }
-        ensures more { result ≡ Ok Got.More → BeginsNone (seen self.old).rest }
-        ensures unread { result ≡ Ok Got.Unread → NeverBegins (seen self.old).rest }
-        ensures same { SameUnlessTaken result (seen self.old) (seen self.new) }
+        ensures more { result ≡ Ok Got.More → Waits (seen self.old) (seen self.new) }
+        ensures bad { (kind : BadRequest) (offset : ℕ) → result ≡ Ok (Got.Bad kind offset)
+            → Refuses (seen self.old) (seen self.new) kind offset }
+        ensures err { OnErr result (SkipsOnly (seen self.old) (seen self.new)) }
     {
         loop {
             match self.step()? {
                 Step::Onward => {}
                 Step::Took(words) => return Ok(Got::Request(words)),
                 Step::Wait => return Ok(Got::More),
-                Step::Bad(_) => return Ok(Got::Unread),
+                Step::Bad(kind, offset) => return Ok(Got::Bad(kind, offset)),
             }
         }
     }
@@ -121,47 +122,87 @@ impl Reading {
         ensures err { OnErr result (seen self.new ≡ seen self.old) }
     {
         match self.stage {
-            Stage::Count => Ok(self.read_count()),
+            Stage::Request => self.read_request(),
             Stage::Length => Ok(self.read_length()),
             Stage::Word(length) => self.read_word(length),
         }
     }
 
-    fn read_count(&mut self) -> Step
-        requires { self.old.stage ≡ Stage.Count }
-        ensures { Steps self.old self.new result }
+    fn read_request(&mut self) -> Result<Step, NoMemory>
+        requires { self.old.stage ≡ Stage.Request }
+        ensures ok { IfOk result (Steps self.old self.new) }
+        ensures err { OnErr result (seen self.new ≡ seen self.old) }
     {
-        match self.input.header(b'*', 1, MOST_WORDS) {
-            Header::Open => Step::Wait,
-            Header::Bad(flaw) => Step::Bad(Fault::Count(flaw)),
-            Header::Number(count, size) => {
-                self.input.skip(size);
-                self.read = size as u64;
-                self.count = count as usize;
-                self.stage = Stage::Length;
-                Step::Onward
-            }
+        match self.input.first() {
+            None => Ok(Step::Wait),
+            Some(b'*') => Ok(self.read_count()),
+            Some(_) => self.read_line(),
         }
     }
 
-    #[tactic(auto, using(crate::proofs::ReaderSteps::parts))]
+    fn read_count(&mut self) -> Step
+        requires stage { self.old.stage ≡ Stage.Request }
+        requires mark { slice_get self.old.input 0 ≡ Some 42 }
+        ensures { Steps self.old self.new result }
+    {
+        match self.input.header() {
+            Header::Open => Step::Wait,
+            Header::Bad(kind, place) => self.refuse(kind, place),
+            Header::Line(end) => self.take_count(end),
+        }
+    }
+
+    fn take_count(&mut self, end: usize) -> Step
+        requires stage { self.old.stage ≡ Stage.Request }
+        requires mark { slice_get self.old.input 0 ≡ Some 42 }
+        requires line { IsHeaderLine self.old.input end }
+        ensures { Steps self.old self.new result }
+    {
+        let Some(count) = read_count(&self.input.front(end)[1..]) else {
+            return self.refuse(BadRequest::MultibulkLength, 0);
+        };
+        self.input.skip(end + 2);
+        if count == 0 {
+            self.passed += end as u64 + 2;
+            return Step::Onward;
+        }
+        self.read = end as u64 + 2;
+        self.count = count as usize;
+        self.stage = Stage::Length;
+        Step::Onward
+    }
+
     fn read_length(&mut self) -> Step
         requires { self.old.stage ≡ Stage.Length }
         ensures { Steps self.old self.new result }
     {
-        match self.input.header(b'$', 0, LONGEST_WORD) {
+        match self.input.first() {
+            None => return Step::Wait,
+            Some(b'$') => {}
+            Some(byte) => return self.refuse(BadRequest::ExpectedDollar(byte), 0),
+        }
+        match self.input.header() {
             Header::Open => Step::Wait,
-            Header::Bad(flaw) => Step::Bad(Fault::Length(flaw)),
-            Header::Number(length, size) => {
-                self.input.skip(size);
-                self.read += size as u64;
-                self.stage = Stage::Word(length as usize);
-                Step::Onward
-            }
+            Header::Bad(kind, place) => self.refuse(kind, place),
+            Header::Line(end) => self.take_length(end),
         }
     }
 
-    #[tactic(auto, using(crate::proofs::ReaderSteps::parts))]
+    fn take_length(&mut self, end: usize) -> Step
+        requires stage { self.old.stage ≡ Stage.Length }
+        requires mark { slice_get self.old.input 0 ≡ Some 36 }
+        requires line { IsHeaderLine self.old.input end }
+        ensures { Steps self.old self.new result }
+    {
+        let Some(length) = read_length(&self.input.front(end)[1..]) else {
+            return self.refuse(BadRequest::BulkLength, 0);
+        };
+        self.input.skip(end + 2);
+        self.read += end as u64 + 2;
+        self.stage = Stage::Word(length as usize);
+        Step::Onward
+    }
+
     fn read_word(&mut self, length: usize) -> Result<Step, NoMemory>
         requires { self.old.stage ≡ Stage.Word length }
         ensures ok { IfOk result (Steps self.old self.new) }
@@ -169,7 +210,7 @@ impl Reading {
     {
         match self.input.line_end(length) {
             LineEnd::Open => Ok(Step::Wait),
-            LineEnd::Missing => Ok(Step::Bad(Fault::WordEnd)),
+            LineEnd::Missing(place) => Ok(self.refuse(BadRequest::NoLineEnd, place)),
             LineEnd::There => self.take_word(length),
         }
     }
@@ -180,7 +221,7 @@ impl Reading {
         ensures ok { IfOk result (Steps self.old self.new) }
         ensures err { OnErr result (seen self.new ≡ seen self.old) }
     {
-        let word = self.input.front(self.alloc, length)?;
+        let word = Blob::from_slice(self.alloc, self.input.front(length))?;
         self.words.push(word)?;
         self.input.skip(length + 2);
         self.read += length as u64 + 2;
@@ -188,10 +229,53 @@ impl Reading {
             self.stage = Stage::Length;
             return Ok(Step::Onward);
         }
-        self.stage = Stage::Count;
+        self.stage = Stage::Request;
         self.passed += self.read;
         self.read = 0;
         let none = Sequence::new(self.alloc);
         Ok(Step::Took(mem::replace(&mut self.words, none)))
+    }
+
+    fn read_line(&mut self) -> Result<Step, NoMemory>
+        requires stage { self.old.stage ≡ Stage.Request }
+        requires no_array { begins_array self.old.input ≡ false }
+        ensures ok { IfOk result (Steps self.old self.new) }
+        ensures err { OnErr result (seen self.new ≡ seen self.old) }
+    {
+        let end = self.input.find(LF);
+        if end == FARTHEST {
+            return Ok(self.refuse(BadRequest::LineTooLong, 0));
+        }
+        if end == self.input.len() {
+            return Ok(Step::Wait);
+        }
+        self.take_line(end)
+    }
+
+    fn take_line(&mut self, end: usize) -> Result<Step, NoMemory>
+        requires stage { self.old.stage ≡ Stage.Request }
+        requires line { IsInlineLine self.old.input end }
+        ensures ok { IfOk result (Steps self.old self.new) }
+        ensures err { OnErr result (seen self.new ≡ seen self.old) }
+    {
+        if let Some(place) = first_quote(self.input.front(end)) {
+            return Ok(self.refuse(BadRequest::Quote, place));
+        }
+        let words = line_words(self.alloc, self.input.front(end))?;
+        self.input.skip(end + 1);
+        self.passed += end as u64 + 1;
+        if words.is_empty() {
+            return Ok(Step::Onward);
+        }
+        Ok(Step::Took(words))
+    }
+
+    // Why no request stands here, and where, counted from the first byte that was not read.
+    fn refuse(&self, kind: BadRequest, place: usize) -> Step
+        requires within { place ≤ length self.now.input }
+        requires bad { BadAt (seen self.now).rest kind (self.now.read + place) }
+        ensures { Steps self.now self.now result }
+    {
+        Step::Bad(kind, self.passed + self.read + place as u64)
     }
 }

@@ -1,35 +1,66 @@
-ghost use Rattle.std.specs.Prelude.{◌≡◌, ◌+◌, ◌<◌, ◌^◌, length};
+ghost use Rattle.std.specs.Prelude.{◌≡◌, ◌<◌, ◌+◌, ◌^◌, length};
+ghost use Rattle.resp_codec.specs.Stream.{fed};
 
-use crate::{Got, Reader};
-use core_types::Args;
+use crate::{Got, Reader, bad_reply, write_reply};
+use core_types::{BadRequest, Blob};
 use std::alloc::Global;
 use std::test::Fail;
 
-// The words in brackets.
-fn bracketed(alloc: Global, words: &Args) -> Result<Vec<u8>, Fail> {
-    let mut text = Vec::new(alloc);
+// Says a request at the end of the text, its words in brackets. Where none comes, answers why.
+#[tactic(auto, using(crate::proofs::Passing::fed_same))]
+fn say_next(alloc: Global, reader: &mut Reader, text: &mut Vec<u8>) -> Result<Option<String>, Fail>
+    ensures fed { fed reader.new ≡ fed reader.old }
+{
+    let words = match reader.next()? {
+        Got::Request(words) => words,
+        Got::More => return Ok(Some(String::from_str(alloc, "more")?)),
+        Got::Bad(kind, offset) => return Ok(Some(format!(in alloc; "{kind:?} {offset}")?)),
+    };
     for word in words.as_slice() {
         text.push(b'[')?;
         text.extend_from_slice(word.as_slice())?;
         text.push(b']')?;
     }
+    text.push(b' ')?;
+    Ok(None)
+}
+
+// Says all requests, and answers why no more come.
+fn say_all(alloc: Global, reader: &mut Reader, text: &mut Vec<u8>) -> Result<String, Fail>
+    ensures fed { fed reader.new ≡ fed reader.old }
+{
+    for _ in 0..100u8 {
+        if let Some(end) = say_next(alloc, reader, text)? {
+            return Ok(end);
+        }
+    }
+    Ok(String::from_str(alloc, "much")?)
+}
+
+// All answers to these bytes, fed whole.
+fn answers(alloc: Global, bytes: &[u8]) -> Result<Vec<u8>, Fail> {
+    let mut reader = Reader::new(alloc);
+    let mut text = Vec::new(alloc);
+    reader.feed(bytes)?;
+    let end = say_all(alloc, &mut reader, &mut text)?;
+    text.extend_from_slice(end.as_bytes())?;
     Ok(text)
 }
 
-// What the reader answers: the words of a request in brackets, or the answer's name.
-fn answer(alloc: Global, reader: &mut Reader) -> Result<Vec<u8>, Fail>
-    ensures { reader.new.passed + length reader.new.rest ≡ reader.old.passed + length reader.old.rest }
-{
-    match reader.next()? {
-        Got::Request(words) => bracketed(alloc, &words),
-        Got::More => Ok(b"more".to_vec(alloc)?),
-        Got::Unread => Ok(b"unread".to_vec(alloc)?),
+// All answers to these bytes, fed one by one.
+fn answers_by_byte(alloc: Global, bytes: &[u8]) -> Result<Vec<u8>, Fail> {
+    let mut reader = Reader::new(alloc);
+    let mut text = Vec::new(alloc);
+    let mut end = String::new(alloc);
+    for byte in bytes {
+        reader.feed(&[*byte])?;
+        end = say_all(alloc, &mut reader, &mut text)?;
     }
+    text.extend_from_slice(end.as_bytes())?;
+    Ok(text)
 }
 
-const SET: [u8; 30] = *b"*3\r\n$3\r\nSET\r\n$1\r\nk\r\n$4\r\na\r\nb\r\n";
-
-const EMPTY: [u8; 10] = *b"*1\r\n$0\r\n\r\n";
+const SET: &[u8] = b"*3\r\n$3\r\nSET\r\n$1\r\nk\r\n$4\r\na\r\nb\r\n";
 
 // Each call answers something else than want of memory, and what it should.
 #[test]
@@ -37,147 +68,169 @@ fn ample(rt: HostRuntime) -> Result<(), Fail> {
     let alloc = rt.alloc();
     let mut reader = Reader::new(alloc);
     assert_eq!(rt; reader.rest(), 0);
-    reader.feed(&SET)?;
-    reader.feed(&EMPTY)?;
-    reader.feed(b"*1")?;
-    assert_eq!(rt; reader.rest(), 42);
-    assert_eq!(rt;
-        answer(alloc, &mut reader)?.as_slice(),
-        b"[SET][k][a\r\nb]".as_slice()
-    );
-    assert_eq!(rt; reader.rest(), 12);
-    assert_eq!(rt; answer(alloc, &mut reader)?.as_slice(), b"[]".as_slice());
-    assert_eq!(rt; answer(alloc, &mut reader)?.as_slice(), b"more".as_slice());
-    assert_eq!(rt; reader.rest(), 2);
+    reader.feed(SET)?;
+    reader.feed(b"*0\r\nPING\n*2\r\n$3\r\nGET\r\n$1")?;
+    assert_eq!(rt; reader.rest(), 54);
+    let mut text = Vec::new(alloc);
+    assert!(rt; say_next(alloc, &mut reader, &mut text)?.is_none());
+    assert_eq!(rt; reader.rest(), 24);
+    assert!(rt; say_next(alloc, &mut reader, &mut text)?.is_none());
+    assert_eq!(rt; reader.rest(), 15);
+    assert!(rt; say_next(alloc, &mut reader, &mut text)?.is_some());
+    assert_eq!(rt; reader.rest(), 15);
+    assert_eq!(rt; text.as_slice(), b"[SET][k][a\r\nb] [PING] ".as_slice());
     Ok(())
 }
 
-// A request that is cut in any place is not whole until the rest comes.
+// Streams and what is answered to them, the same whole and byte by byte.
 #[test]
-fn cut_anywhere(rt: HostRuntime) -> Result<(), Fail> {
+fn streams(rt: HostRuntime) -> Result<(), Fail> {
     let alloc = rt.alloc();
-    for cut in 0..SET.len() {
-        let (front, back) = SET.split_at(cut);
-        let mut reader = Reader::new(alloc);
-        reader.feed(front)?;
-        assert_eq!(rt; answer(alloc, &mut reader)?.as_slice(), b"more".as_slice());
-        assert_eq!(rt; reader.rest(), cut as u64);
-        reader.feed(back)?;
-        assert_eq!(rt;
-            answer(alloc, &mut reader)?.as_slice(),
-            b"[SET][k][a\r\nb]".as_slice()
-        );
-        assert_eq!(rt; reader.rest(), 0);
-    }
-    Ok(())
-}
-
-// A stream that comes byte by byte holds the same requests.
-#[test]
-fn byte_by_byte(rt: HostRuntime) -> Result<(), Fail> {
-    let alloc = rt.alloc();
-    let stream = *b"*2\r\n$4\r\nECHO\r\n$0\r\n\r\n*1\r\n$1\r\n\n\r\n*1\r\n$4\r\nQU";
-    let mut reader = Reader::new(alloc);
-    let mut told = Vec::new(alloc);
-    for byte in &stream {
-        reader.feed(&[*byte])?;
-        let text = answer(alloc, &mut reader)?;
-        if text.as_slice() != b"more".as_slice() {
-            told.extend_from_slice(&text)?;
-        }
-    }
-    assert_eq!(rt; told.as_slice(), b"[ECHO][][\n]".as_slice());
-    assert_eq!(rt; reader.rest(), 10);
-    Ok(())
-}
-
-// What no bytes to come make a request is told at once: with its last byte, and not before.
-#[test]
-fn unread_at_once(rt: HostRuntime) -> Result<(), Fail> {
-    let alloc = rt.alloc();
-    let cases: [&[u8]; 21] = [
-        b"P",
-        b"\r",
-        b"*1\r\r",
-        b"*0\r\n",
-        b"*-1\r\n",
-        b"*\r\n",
-        b"*01\r\n",
-        b"*+1\r\n",
-        b"*1 \r\n",
-        b"*1048577\r\n",
-        b"*18446744073709551617\r\n",
-        b"*1\r\n+",
-        b"*1\r\n$3\r$",
-        b"*1\r\n$\r\n",
-        b"*1\r\n$-1\r\n",
-        b"*1\r\n$00\r\n",
-        b"*1\r\n$536870913\r\n",
-        b"*1\r\n$3\r\nSETX",
-        b"*1\r\n$3\r\nSET\r\r",
-        b"*2\r\n$3\r\nSET\r\n*",
-        b"*1\r\n$0\r\n\n",
+    let rows: [(&[u8], &[u8]); 45] = [
+        (SET, b"[SET][k][a\r\nb] more"),
+        (b"*0\r\n*-1\r\n\r\nPING\n", b"[PING] more"),
+        (b"*-9223372036854775808\r\n*1\r\n$1\r\na\r\n", b"[a] more"),
+        (b"\tGET  key\t\r\n \r\n\n GET a \nX\r\r\n", b"[GET][key] [GET][a] [X\r] more"),
+        (b"PING", b"more"),
+        (b"PING\r", b"more"),
+        (b"PING\n*2\r\n$3\r\nGET\r\n$1", b"[PING] more"),
+        (b"*", b"more"),
+        (b"*1\r", b"more"),
+        (b"*1\r\n$0\r\n", b"more"),
+        (b"*1\r\n$0\r\n\r", b"more"),
+        (b"*3\r\n$3\r\nSET\r\n$1\r\nk\r\n$536870913\r\n", b"BulkLength 20"),
+        (b"*1048577\r\n", b"MultibulkLength 0"),
+        (b"*01\r\n", b"MultibulkLength 0"),
+        (b"*-0\r\n", b"MultibulkLength 0"),
+        (b"*-01\r\n", b"MultibulkLength 0"),
+        (b"*+1\r\n", b"MultibulkLength 0"),
+        (b"*\r\n", b"MultibulkLength 0"),
+        (b"*-\r\n", b"MultibulkLength 0"),
+        (b"*1 \r\n", b"MultibulkLength 0"),
+        (b"*9223372036854775808\r\n", b"MultibulkLength 0"),
+        (b"*-9223372036854775809\r\n", b"MultibulkLength 0"),
+        (b"*18446744073709551617\r\n", b"MultibulkLength 0"),
+        (b"*01\rX", b"NoLineEnd 4"),
+        (b"*1\rX", b"NoLineEnd 3"),
+        (b"*1\r\r\n", b"NoLineEnd 3"),
+        (b"*1\r\n$-1\r\n", b"BulkLength 4"),
+        (b"*1\r\n$\r\n", b"BulkLength 4"),
+        (b"*1\r\n$00\r\n", b"BulkLength 4"),
+        (b"*1\r\n$9223372036854775807\r\n", b"BulkLength 4"),
+        (b"*1\r\n$3\r$", b"NoLineEnd 7"),
+        (b"*1\r\n+", b"ExpectedDollar(43) 4"),
+        (b"*1\r\n\r\n", b"ExpectedDollar(13) 4"),
+        (b"*2\r\n$3\r\nSET\r\n*", b"ExpectedDollar(42) 13"),
+        (b"*1\r\n$3\r\nSETX\n", b"NoLineEnd 11"),
+        (b"*1\r\n$3\r\nSET\rX", b"NoLineEnd 12"),
+        (b"*1\r\n$0\r\n\n", b"NoLineEnd 8"),
+        (b"say \"hi\"\n", b"Quote 4"),
+        (b"it's \"so\"\n", b"Quote 2"),
+        (b"say \"hi\"", b"more"),
+        (b"PING\n\n*0\r\n*2\r\n$4\r\nECHO\r\n!", b"[PING] ExpectedDollar(33) 24"),
+        (b"*1\r\n$1\r\na\r\n \n*a\r\n", b"[a] MultibulkLength 13"),
+        (b"*1\r\n$1\r\na\r\n \n*1\r\n$-0\r\n", b"[a] BulkLength 17"),
+        (b"*1\r\n$1\r\na\r\n*-1\r\n*1\r\r", b"[a] NoLineEnd 19"),
+        (b"*1\r\n$1\r\na\r\n\r\na'\n", b"[a] Quote 14"),
     ];
-    for bytes in cases {
-        let (front, last) = bytes.split_at(bytes.len().saturating_sub(1));
-        let mut reader = Reader::new(alloc);
-        reader.feed(front)?;
-        assert_eq!(rt;
-            answer(alloc, &mut reader)?.as_slice(),
-            b"more".as_slice(),
-            "{bytes:?}"
-        );
-        reader.feed(last)?;
-        assert_eq!(rt;
-            answer(alloc, &mut reader)?.as_slice(),
-            b"unread".as_slice(),
-            "{bytes:?}"
-        );
-        reader.feed(&SET)?;
-        assert_eq!(rt;
-            answer(alloc, &mut reader)?.as_slice(),
-            b"unread".as_slice(),
-            "{bytes:?}"
-        );
+    for (bytes, expected) in rows {
+        assert_eq!(rt; answers(alloc, bytes)?.as_slice(), expected);
+        assert_eq!(rt; answers_by_byte(alloc, bytes)?.as_slice(), expected);
     }
     Ok(())
 }
 
-// The largest numbers are no reason to refuse, nor to wait for memory.
+// What comes after a bad request changes nothing, and the rest begins with it.
 #[test]
-fn largest_numbers(rt: HostRuntime) -> Result<(), Fail> {
+fn bad_for_good(rt: HostRuntime) -> Result<(), Fail> {
     let alloc = rt.alloc();
-    let mut reader = Reader::new(alloc);
-    reader.feed(b"*1048576\r\n$536870912\r\n")?;
-    assert_eq!(rt; answer(alloc, &mut reader)?.as_slice(), b"more".as_slice());
-    assert_eq!(rt; reader.rest(), 22);
+    let rows: [(&[u8], &str); 5] = [
+        (b"*x\r\n", "MultibulkLength 11"),
+        (b"*1\r\n$x\r\n", "BulkLength 15"),
+        (b"*1\r\n:", "ExpectedDollar(58) 15"),
+        (b"*1\rX", "NoLineEnd 14"),
+        (b"'\n", "Quote 11"),
+    ];
+    for (bytes, expected) in rows {
+        let mut reader = Reader::new(alloc);
+        reader.feed(b"PING\n*-1\r\n\n")?;
+        reader.feed(bytes)?;
+        let mut text = Vec::new(alloc);
+        assert_eq!(rt; say_all(alloc, &mut reader, &mut text)?.as_str(), expected);
+        assert_eq!(rt; reader.rest(), bytes.len() as u64);
+        reader.feed(b"PING\n")?;
+        assert_eq!(rt; say_all(alloc, &mut reader, &mut text)?.as_str(), expected);
+        assert_eq!(rt; reader.rest(), bytes.len() as u64 + 5);
+        assert_eq!(rt; text.as_slice(), b"[PING] ".as_slice());
+    }
     Ok(())
 }
 
-// The answer to these bytes and so many digits.
-fn answer_to_digits(alloc: Global, front: &[u8], count: usize) -> Result<Vec<u8>, Fail>
-    requires { count < 2 ^ 32 }
-{
-    let mut reader = Reader::new(alloc);
-    reader.feed(front)?;
-    let digits = vec![in alloc; b'1'; count]?;
-    reader.feed(&digits)?;
-    answer(alloc, &mut reader)
+// A header has its CR, and a line its LF, among its first 65,537 bytes.
+#[test]
+fn longest_lines(rt: HostRuntime) -> Result<(), Fail> {
+    let alloc = rt.alloc();
+    let rows: [(&[u8], &str, &str); 3] = [
+        (b"*", "MultibulkLength 0", "LineTooLong 0"),
+        (b"*1\r\n$", "BulkLength 4", "LineTooLong 4"),
+        (b"\n'", "Quote 1", "LineTooLong 1"),
+    ];
+    let ones = vec![in alloc; b'1'; 65_534]?;
+    for (front, whole, long) in rows {
+        let mut text = Vec::new(alloc);
+        let mut reader = Reader::new(alloc);
+        reader.feed(front)?;
+        reader.feed(&ones)?;
+        assert_eq!(rt; say_all(alloc, &mut reader, &mut text)?.as_str(), "more");
+        reader.feed(b"\r\n")?;
+        assert_eq!(rt; say_all(alloc, &mut reader, &mut text)?.as_str(), whole);
+        let mut reader = Reader::new(alloc);
+        reader.feed(front)?;
+        reader.feed(&ones)?;
+        reader.feed(b"11")?;
+        assert_eq!(rt; say_all(alloc, &mut reader, &mut text)?.as_str(), long);
+    }
+    Ok(())
 }
 
-// A header has its CR among its first 65,537 bytes, its mark included.
+// The error of each kind of bad request, as it is sent.
 #[test]
-fn longest_header(rt: HostRuntime) -> Result<(), Fail> {
+fn replies(rt: HostRuntime) -> Result<(), Fail> {
     let alloc = rt.alloc();
-    for front in [b"*".as_slice(), b"*1\r\n$"] {
-        assert_eq!(rt;
-            answer_to_digits(alloc, front, 65_535)?.as_slice(),
-            b"more".as_slice()
-        );
-        assert_eq!(rt;
-            answer_to_digits(alloc, front, 65_536)?.as_slice(),
-            b"unread".as_slice()
-        );
+    let rows: [(BadRequest, &[u8]); 7] = [
+        (
+            BadRequest::MultibulkLength,
+            b"-ERR Protocol error: invalid multibulk length\r\n",
+        ),
+        (
+            BadRequest::BulkLength,
+            b"-ERR Protocol error: invalid bulk length\r\n",
+        ),
+        (
+            BadRequest::ExpectedDollar(b'x'),
+            b"-ERR Protocol error: expected '$', got 'x'\r\n",
+        ),
+        (
+            BadRequest::ExpectedDollar(b'\n'),
+            b"-ERR Protocol error: expected '$', got '?'\r\n",
+        ),
+        (
+            BadRequest::LineTooLong,
+            b"-ERR Protocol error: line too long\r\n",
+        ),
+        (
+            BadRequest::NoLineEnd,
+            b"-ERR Protocol error: line end expected\r\n",
+        ),
+        (
+            BadRequest::Quote,
+            b"-ERR Protocol error: quoted inline words are not served\r\n",
+        ),
+    ];
+    for (kind, text) in rows {
+        let mut out = Blob::new(alloc);
+        write_reply(&mut out, &bad_reply(alloc, &kind)?)?;
+        assert_eq!(rt; out.as_slice(), text);
     }
     Ok(())
 }

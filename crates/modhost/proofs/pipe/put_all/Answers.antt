@@ -1,5 +1,5 @@
 use Rattle.std.proofs.Common.{arith}
-use Rattle.modhost.proofs.Pieces.{sent_more}
+use Rattle.modhost.proofs.HandedOn.{sent_more}
 use Rattle.modhost.proofs.pipe.put_all.Goals as goal
 
 pub loop-done-preserved : goal.loop-done-preserved

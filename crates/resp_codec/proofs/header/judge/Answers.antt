@@ -1,9 +1,11 @@
-use Rattle.std.proofs.Common.{rules}
-use Rattle.std.proofs.lemmas.Fmt.{decimal_injective}
-use Rattle.resp_codec.proofs.ReaderHeaders.{NeverBeginsHeader-digits}
+use Rattle.resp_codec.proofs.ReaderHeaders.{Judges-endless, Judges-open, Judges-missing}
 use Rattle.resp_codec.proofs.header.judge.Goals as goal
 
-pub returns-in_default : goal.returns-in_default
-returns-in_default c =
-    NeverBeginsHeader-digits _ _ _ _ _ c.requires.mark c.requires.most c.requires.searched c.in-There.ensures.0
-    (λ n low high e. search (rules, decimal_injective))
+pub returns-then-end-eq-FARTHEST : goal.returns-then-end-eq-FARTHEST
+returns-then-end-eq-FARTHEST c = Judges-endless c.args.bytes.now (rw c.if-end-eq-FARTHEST.true at c.requires)
+
+pub returns-in-Open : goal.returns-in-Open
+returns-in-Open c = Judges-open c.args.bytes.now c.args.end c.requires c.if-end-eq-FARTHEST.false c.in-Open.ensures
+
+pub returns-in-Missing : goal.returns-in-Missing
+returns-in-Missing c = Judges-missing c.args.bytes.now c.args.end c.in-Missing.place c.requires c.if-end-eq-FARTHEST.false c.in-Missing.ensures

@@ -1,5 +1,5 @@
 use Rattle.std.proofs.Common.{◌≡◌, drop, ap, ◌∙◌, arith}
-use Rattle.modhost.proofs.Pieces.{copied_front, copied_none}
+use Rattle.modhost.proofs.HandedOn.{copied_front, copied_none}
 use Rattle.modhost.proofs.memory.MemorySourceSource.take.Goals as goal
 
 pub returns-clause-bytes : goal.returns-clause-bytes

@@ -1,0 +1,122 @@
+#!/usr/bin/env python3
+"""How the cost of `modhost pipe` grows: each load against a tenth of it, and against redis-server in one run.
+
+Prints seconds and peak memory of each load, and the ratios. Needs the toolchain; redis-server and redis-cli
+are used where they are installed.
+"""
+
+import os
+import shutil
+import subprocess
+import sys
+import tempfile
+import time
+
+ROOT = os.path.dirname(os.path.dirname(os.path.abspath(__file__)))
+PROGRAM = os.path.join(ROOT, "modhost")
+
+
+def multibulk(*words):
+    parts = [b"*%d\r\n" % len(words)]
+    for word in words:
+        parts.append(b"$%d\r\n%s\r\n" % (len(word), word))
+    return b"".join(parts)
+
+
+def many_words(count):
+    return multibulk(b"DEL", *(b"k%03d" % (n % 1000) for n in range(count - 1)))
+
+
+def pings(count):
+    return multibulk(b"PING") * count
+
+
+def inline_lines(count):
+    return (b"GET " + b"k" * 65_531 + b"\n") * count
+
+
+def long_value(size):
+    return multibulk(b"PING", b"v" * size)
+
+
+
+LOADS = [
+    ("one request of 500,000 words of 4 bytes", many_words, 500_000),
+    ("one request of 1,000,000 words of 4 bytes", many_words, 1_000_000),
+    ("500,000 requests of PING", pings, 500_000),
+    ("1,000 inline lines of 65,536 bytes", inline_lines, 1_000),
+    ("one word of 512 MiB", long_value, 536_870_912),
+]
+
+
+def run(data):
+    """Seconds and peak kilobytes of one run over the bytes, from a file and to nowhere."""
+    with tempfile.TemporaryDirectory() as folder:
+        path = os.path.join(folder, "input")
+        with open(path, "wb") as out:
+            out.write(data)
+        # A small interpreter starts it, since a child's peak counts what its parent held.
+        told = subprocess.run([sys.executable, __file__, "--measure", path], stdout=subprocess.PIPE)
+        if told.returncode != 0:
+            sys.exit(told.returncode)
+        seconds, kilobytes = told.stdout.split()
+        return float(seconds), int(kilobytes)
+
+
+def measure(path):
+    with open(path, "rb") as stdin:
+        start = time.monotonic()
+        child = subprocess.Popen(
+            [PROGRAM, "pipe", os.path.dirname(path)], stdin=stdin, stdout=subprocess.DEVNULL
+        )
+        _, status, usage = os.wait4(child.pid, 0)
+        seconds = time.monotonic() - start
+    if status != 0:
+        sys.exit(f"modhost ended with {os.waitstatus_to_exitcode(status)}")
+    print(seconds, usage.ru_maxrss)
+
+
+def redis_pings(count):
+    """Seconds that redis-server takes for the same PINGs, sent by redis-cli --pipe."""
+    if not (shutil.which("redis-server") and shutil.which("redis-cli")):
+        return None
+    with tempfile.TemporaryDirectory() as folder:
+        socket = os.path.join(folder, "redis.sock")
+        server = subprocess.Popen(
+            ["redis-server", "--port", "0", "--unixsocket", socket, "--save", "", "--dir", folder],
+            stdout=subprocess.DEVNULL,
+        )
+        try:
+            while not os.path.exists(socket):
+                time.sleep(0.05)
+            start = time.monotonic()
+            subprocess.run(
+                ["redis-cli", "-s", socket, "--pipe"],
+                input=pings(count), stdout=subprocess.DEVNULL, check=True,
+            )
+            return time.monotonic() - start
+        finally:
+            server.terminate()
+            server.wait()
+
+
+def main():
+    subprocess.run([PROGRAM, "--version"], stdout=subprocess.DEVNULL, check=True)
+    for name, make, count in LOADS:
+        tenth, tenth_memory = run(make(count // 10))
+        whole, memory = run(make(count))
+        print(f"{name}: {whole:.2f} s, {memory // 1024} MiB; a tenth: {tenth:.2f} s, "
+              f"{tenth_memory // 1024} MiB; ratio {whole / tenth:.1f}")
+    theirs = redis_pings(500_000)
+    if theirs is None:
+        print("redis-server is not installed: no comparison")
+    else:
+        ours, _ = run(pings(500_000))
+        print(f"500,000 PINGs: modhost {ours:.2f} s, redis-server {theirs:.2f} s, ratio {ours / theirs:.2f}")
+
+
+if __name__ == "__main__":
+    if sys.argv[1:2] == ["--measure"]:
+        measure(sys.argv[2])
+    else:
+        main()

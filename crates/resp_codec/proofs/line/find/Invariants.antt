@@ -1,0 +1,5 @@
+use Rattle.resp_codec.specs.Line.{IsSearched}
+use Rattle.resp_codec.proofs.line.find.Given as goal
+
+abbrev pub invariant-loop-place : goal.invariant-loop-place
+invariant-loop-place l = IsSearched l.sought l.place l.bytes

@@ -1,5 +1,0 @@
-use Rattle.resp_codec.specs.Line.{IsSearched}
-use Rattle.resp_codec.proofs.line.find_return.Given as goal
-
-abbrev pub invariant-loop-place : goal.invariant-loop-place
-invariant-loop-place l = IsSearched l.place l.bytes

@@ -1,0 +1,31 @@
+use Rattle.std.proofs.Common.{◌+◌, ◌++◌, length, sym, arith}
+use Rattle.std.specs.List.{flat_map}
+use Rattle.resp_codec.specs.Spelling.{bulk}
+use Rattle.resp_codec.specs.Header.{header}
+use Rattle.resp_codec.specs.Reading.{seen}
+use Rattle.resp_codec.proofs.Passing.{Waits-here}
+use Rattle.resp_codec.proofs.ReaderSteps.{bad_mark, due_length, unfinished_length, IsBegun-words}
+use Rattle.resp_codec.proofs.reading.Reading.read_length.Goals as goal
+
+pub returns-in-None : goal.returns-in-None
+returns-in-None c =
+    let s = c.args.self.now in
+    let due = rw c.requires at s.due in
+    Waits-here (seen s) (rw c.requires (unfinished_length (header 42 s.count ++ flat_map bulk s.words) s.input (IsBegun-words s.count s.words due) (sym c.in-None.ensures.first)))
+
+pub refuse-requires-clause-bad : goal.refuse-requires-clause-bad
+refuse-requires-clause-bad c =
+    let s = c.args.self.now in
+    let due = rw c.requires at s.due in
+    let read_is = rw c.requires at s.read_is in
+    rw c.requires
+    (bad_mark (header 42 s.count ++ flat_map bulk s.words) s.input c.in-Some.byte (s.read + 0) (IsBegun-words s.count s.words due) (sym c.in-Some.ensures.first) c.in-Some.byte-test.1 (omega arith))
+
+pub refuse-requires-in-Bad-clause-bad : goal.refuse-requires-in-Bad-clause-bad
+refuse-requires-in-Bad-clause-bad c =
+    let s = c.args.self.now in
+    let before = header 42 s.count ++ flat_map bulk s.words in
+    let due = rw c.requires at s.due in
+    let read_is = rw c.requires at s.read_is in
+    rw (c.requires, c.in-Bad.ensures.same, read_is)
+    (c.in-Bad.ensures.judged.1 before (due_length before s.input (IsBegun-words s.count s.words due) (sym (rw c.in-Some-eq36.field-0-test at c.in-Some-eq36.ensures.first))))

@@ -1,0 +1,18 @@
+use Rattle.std.proofs.Common.{◌+◌, ap, subst, length, sym, inr, arith}
+use Rattle.resp_codec.specs.Reading.{seen}
+use Rattle.resp_codec.proofs.Passing.{Waits-here}
+use Rattle.resp_codec.proofs.ReaderSteps.{bad_word_end, unfinished_word}
+use Rattle.resp_codec.proofs.reading.Reading.read_word.Goals as goal
+
+pub refuse-requires-clause-bad : goal.refuse-requires-clause-bad
+refuse-requires-clause-bad c =
+    let s = c.args.self.now in
+    let due = rw c.requires at s.due in
+    let read_is = rw c.requires at s.read_is in
+    rw (c.requires, read_is) (inr (bad_word_end s.count c.args.length c.in-Missing.place s.words s.input due.0 due.1 c.in-Missing.ensures.found))
+
+pub returns-in-Open-clause-ok : goal.returns-in-Open-clause-ok
+returns-in-Open-clause-ok c =
+    let s = c.args.self.now in
+    let due = rw c.requires at s.due in
+    Waits-here (seen s) (rw c.requires (unfinished_word s.count c.args.length s.words s.input due.0 due.1 c.in-Open.ensures.found))
