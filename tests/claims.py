@@ -1,0 +1,147 @@
+#!/usr/bin/env python3
+"""Checks docs/CLAIMS.md against the code.
+
+Each row's call has the clause, its definitions and must-fail edits are there, and each public function has a
+row or is in the list of those that say nothing. Prints one line a problem.
+"""
+
+import re
+import sys
+from pathlib import Path
+
+ROOT = Path(__file__).resolve().parent.parent
+CRATES = ROOT / "crates"
+CLAIMS = ROOT / "docs" / "CLAIMS.md"
+SILENT = "## Public functions that say nothing"
+
+BLOCK = re.compile(r"(?:pub(?:\(crate\))? )?(impl|trait)\b")
+FUNCTION = re.compile(r"( *)(pub |pub\(crate\) )?fn (\w+)")
+CLAUSE = re.compile(r"\s*(ensures|requires)\s+(\w+)?\s*\{")
+DEFINITION = re.compile(r"`([^`]+)` \(`([^`]+)`\)")
+
+
+class Function:
+    """A function of a crate: its type or trait, whether others may call it, and its clauses."""
+
+    def __init__(self, crate, module, owner, name, public, clauses):
+        self.crate, self.module, self.owner, self.name = crate, module, owner, name
+        self.public = public
+        self.labels = {label or "-" for _, label in clauses}
+        self.ensures = any(kind == "ensures" for kind, _ in clauses)
+
+    def path(self):
+        return "::".join(part for part in (self.crate, *self.module, self.owner, self.name) if part)
+
+    def is_named(self, path):
+        """Whether the path names it; where a type is brought up to the crate, its module may be left out."""
+        short = "::".join(part for part in (self.crate, self.owner, self.name) if part)
+        return path in (self.path(), short)
+
+
+def owner_of(header):
+    """The type of an impl, or the trait that is declared."""
+    while re.search(r"<[^<>]*>", header):
+        header = re.sub(r"<[^<>]*>", "", header)
+    words = header.split("{")[0].split(" where ")[0].replace(":", " : ").split()
+    return words[words.index("trait") + 1] if "trait" in words else words[-1]
+
+
+def clauses_of(lines, indent):
+    """The clauses between a function's name and its body, or the end of a trait's function."""
+    clauses = []
+    for line in lines:
+        clause = CLAUSE.match(line)
+        if clause:
+            clauses.append(clause.groups())
+        if line in (indent + "{", indent + "{}") or line.endswith("};"):
+            break
+        if not clauses and line.endswith(("{", "}", ";")):
+            break
+    return clauses
+
+
+def functions_of(crate):
+    """All functions of a crate, but for those of tests."""
+    found = []
+    source = CRATES / crate / "src"
+    for file in sorted(source.rglob("*.rt")):
+        module = file.relative_to(source).with_suffix("").parts
+        if "tests" in module:
+            continue
+        module = () if module in (("lib",), ("main",)) else module
+        lines = file.read_text().splitlines()
+        owner, shared = None, False
+        for number, line in enumerate(lines):
+            if BLOCK.match(line):
+                owner, shared = owner_of(line), line.startswith("pub trait")
+            elif line.startswith("}"):
+                owner, shared = None, False
+            function = FUNCTION.match(line)
+            if function:
+                indent, public, name = function.groups()
+                clauses = clauses_of(lines[number:], indent)
+                public = shared or public == "pub "
+                found.append(Function(crate, module, owner, name, public, clauses))
+    return found
+
+
+def defines(file, name):
+    words = r"^(?:(?:abbrev|unfoldable|pub|record|data) )*" + re.escape(name) + r"(?=\s)"
+    return file.is_file() and re.search(words, file.read_text(), re.MULTILINE)
+
+
+def row_problems(cells, functions):
+    """What is wrong with a row of the table."""
+    if len(cells) != 5:
+        return ["a row has five cells"]
+    call, label = cells[1].strip("`"), cells[2].strip("`")
+    named = [function for function in functions if function.is_named(call)]
+    if not named:
+        return [f"no function {call}"]
+    problems = []
+    if not any(label in function.labels for function in named):
+        problems.append(f"{call} has no clause {label}")
+    definitions = DEFINITION.findall(cells[3])
+    if cells[3] != "-" and not definitions:
+        problems.append(f"{call}, {label}: no definition `NAME` (`FILE`)")
+    for name, file in definitions:
+        if not defines(CRATES / file, name):
+            problems.append(f"{call}, {label}: {file} defines no {name}")
+    crate = call.split("::")[0]
+    for edit in cells[4].replace("`", "").split(", "):
+        if edit != "-" and not (CRATES / crate / "must-fail" / f"{edit}.edit").is_file():
+            problems.append(f"{call}, {label}: {crate} has no must-fail edit {edit}")
+    return problems
+
+
+def main():
+    crates = [line.split(":")[0] for line in (ROOT / "crates.txt").read_text().splitlines() if line.strip()]
+    functions = [function for crate in crates for function in functions_of(crate)]
+    problems, calls, silent, heading = [], [], [], ""
+    for number, line in enumerate(CLAIMS.read_text().splitlines(), 1):
+        if line.startswith("#"):
+            heading = line
+        elif line.startswith("|") and not line.startswith(("| Promise ", "|---")):
+            cells = [cell.strip() for cell in line.strip().strip("|").split("|")]
+            calls.append(cells[1].strip("`") if len(cells) > 1 else "")
+            problems += [f"docs/CLAIMS.md:{number}: {text}" for text in row_problems(cells, functions)]
+        elif line.startswith("- `") and heading.startswith(SILENT):
+            silent.append(line.split("`")[1])
+    for path in silent:
+        if not any(function.is_named(path) for function in functions):
+            problems.append(f"docs/CLAIMS.md: the list of those that say nothing has {path}, which is not there")
+    for function in functions:
+        if function.public and not any(function.is_named(path) for path in silent):
+            if not function.ensures:
+                problems.append(f"{function.path()} ensures nothing, and is not in the list of those that say nothing")
+            elif not any(function.is_named(path) for path in calls):
+                problems.append(f"{function.path()} has no row in docs/CLAIMS.md")
+    for problem in problems:
+        print(problem)
+    if not problems:
+        print(f"docs/CLAIMS.md: {len(calls)} rows stand in the code")
+    return 1 if problems else 0
+
+
+if __name__ == "__main__":
+    sys.exit(main())
