@@ -30,9 +30,9 @@ unfolding natural
 natural-some most n text e =
     elim (cases_Bool (bytes_eq text (decimal (digits_value 10 text)) && leb (digits_value 10 text) most)) [
       | inl holds ↦
-        let parts = and_parts (bytes_eq text (decimal (digits_value 10 text))) (leb (digits_value 10 text) most) holds in
-        let value : digits_value 10 text ≡ n = let f = rw holds at e in cc in
-        rw (← value) (leb-true (digits_value 10 text) most parts.1, (bytes_eq-Decides text (decimal (digits_value 10 text))).0 parts.0)
+          let parts = and_parts (bytes_eq text (decimal (digits_value 10 text))) (leb (digits_value 10 text) most) holds in
+          let value : digits_value 10 text ≡ n = let f = rw holds at e in cc in
+          rw (← value) (leb-true (digits_value 10 text) most parts.1, (bytes_eq-Decides text (decimal (digits_value 10 text))).0 parts.0)
       | inr fails ↦ let f = rw fails at e in cc
     ]
 
@@ -95,8 +95,8 @@ count_of-other (byte ∷ digits) other =
 decimal-unbroken : (n : ℕ) → n < 2 ^ 64 → list_any (λ byte. eqb byte 13) (decimal n) ≡ false
 decimal-unbroken n small =
     list_any_none (λ byte. eqb byte 13) (decimal n) (λ k d less.
-      let range = digit_at (decimal n) k (decimal_is_IsNumeral n small).0.1 less in
-      ne_eqb (get_or (decimal n) k d) 13 (λ e. omega (arith, range.0, get_or_default (decimal n) k d 0 less)))
+    let range = digit_at (decimal n) k (decimal_is_IsNumeral n small).0.1 less in
+    ne_eqb (get_or (decimal n) k d) 13 (λ e. omega (arith, range.0, get_or_default (decimal n) k d 0 less)))
 
 -- a number behind a mark stands before a header's CR
 pub IsHeaderText-decimal : (mark n : ℕ) → 13 < mark → n < 2 ^ 64 → IsHeaderText (mark ∷ decimal n)

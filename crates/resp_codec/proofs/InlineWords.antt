@@ -61,7 +61,6 @@ without_return-other zero (byte ∷ next ∷ line) long other = absurd (omega ar
 without_return-other (suc n) (byte ∷ []) long other = absurd (omega arith)
 without_return-other (suc n) (byte ∷ next ∷ line) long other = ap (λ (rest : List ℕ). byte ∷ rest) (without_return-other n (next ∷ line) (omega arith) other)
 
-
 pub without_return-empty : (line : List ℕ) → length line ≤ 0 → line ≡ without_return line
 without_return-empty [] none = refl
 without_return-empty (byte ∷ line) none = absurd (omega arith)

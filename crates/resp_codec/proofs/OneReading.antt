@@ -153,4 +153,3 @@ fault_stays bytes more Quote at bad = record {
   first = bad.first;
   place = bad.place;
 }
-

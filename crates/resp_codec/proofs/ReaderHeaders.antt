@@ -28,16 +28,18 @@ one_at bytes place a long first =
     grind (arith, common_steps, take-append-drop place bytes, drop_more bytes place 0)
 
 pub Judges-endless : (bytes : List ℕ) → IsSearchEnd 13 65537 bytes → Judges bytes (answer.Bad LineTooLong 0)
-Judges-endless bytes searched =
-    (omega arith, λ before due. inl record {
-      before = before;
-      rest = bytes;
-      due = due;
-      all = refl;
-      long = searched.searched.within;
-      unbroken = searched.searched.none;
-      place = omega arith;
-    })
+Judges-endless bytes searched = (
+  omega arith,
+  λ before due. inl record {
+    before = before;
+    rest = bytes;
+    due = due;
+    all = refl;
+    long = searched.searched.within;
+    unbroken = searched.searched.none;
+    place = omega arith;
+  },
+)
 
 head-open : (bytes : List ℕ) (end : ℕ) → IsSearchEnd 13 end bytes → end ≢ 65537 → IsFound bytes end found.Open → head bytes ≡ Open
 head-open bytes end searched near (inl short) =
@@ -62,8 +64,9 @@ Judges-line bytes end searched near there =
 pub Judges-missing : (bytes : List ℕ) (end at : ℕ) → IsSearchEnd 13 end bytes → end ≢ 65537 → IsFound bytes end (found.Missing at) → Judges bytes (answer.Bad NoLineEnd at)
 Judges-missing bytes end at searched near (inl (same, less, other)) =
     absurd (other (ap (λ (k : ℕ). get_or bytes k 0) same ∙ searched.there (omega arith) (omega (arith, searched.searched.near))))
-Judges-missing bytes end at searched near (inr (next, less, return, other)) =
-    (omega arith, λ before due.
+Judges-missing bytes end at searched near (inr (next, less, return, other)) = (
+  omega arith,
+  λ before due.
       let parts : bytes ≡ take end bytes ++ 13 ∷ get_or bytes (end + 1) 0 ∷ drop (end + 2) bytes = two_at bytes end 13 (get_or bytes (end + 1) 0) (omega arith) return refl in
       inl record {
         before = before;
@@ -75,6 +78,7 @@ Judges-missing bytes end at searched near (inr (next, less, return, other)) =
         is_text = header_text end bytes searched near;
         other = λ e. other (ap (λ (k : ℕ). get_or bytes k 0) next ∙ e);
         place = omega (arith, length-take-le end bytes searched.searched.within);
-      })
+      },
+)
 
 pub ruleset judging = (Judges-line)

@@ -57,7 +57,6 @@ pub decimal-value : (text : List ℕ) → 0 < length text → (get_or text 0 0 �
 decimal-value text some front digits small =
     sym (decimal-digits_value own text digits some (λ e. omega (arith, front e)) (omega arith))
 
-
 pub ruleset decimals = (IsDecimal-decimal, decimal-value)
 
 pub IsCount-plain : (text : List ℕ) (n : ℕ) → n ≤ 1048576 → text ≡ decimal n → IsCount text n

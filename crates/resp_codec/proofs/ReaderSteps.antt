@@ -101,7 +101,7 @@ pub unfinished_word : (count len : ℕ) (done : List (List ℕ)) (input : List �
 unfinished_word count len done input more small open_end =
     let before = header 42 count ++ flat_map bulk done in
     IsUnfinished-from_short (word_front count done len ++ input) (ap judge (append_assoc before (header 36 len) input)
-      ∙ judge-open before (header 36 len ++ input) (IsBegun-words count done more) (piece-length len input small ∙ open_piece input len (length (header 36 len) + len) open_end))
+    ∙ judge-open before (header 36 len ++ input) (IsBegun-words count done more) (piece-length len input small ∙ open_piece input len (length (header 36 len) + len) open_end))
 
 word_stream : (before word rest : List ℕ) → before ++ header 36 (length word) ++ (word ++ rest) ≡ before ++ 36 ∷ decimal (length word) ++ crlf ++ word ++ rest
 word_stream before word rest =

@@ -9,6 +9,9 @@ use core_types::NoMemory;
 use std::alloc::Global;
 use std::marker::Model;
 
+// A block with more room than this is given back once no byte is left in it.
+const MOST_ROOM: usize = 65_536;
+
 /// Bytes that grow at their end and are read from their front.
 #[derive(Debug, Drop)]
 pub(crate) struct Input {
@@ -82,6 +85,20 @@ impl Input {
     {
         self.bytes.advance(count);
         self.searched = 0;
+        if self.bytes.is_empty() {
+            self.give_back();
+        }
+    }
+
+    // Keeps the room for the next bytes, unless it is much.
+    fn give_back(&mut self)
+        requires { self.old ≡ [] }
+        ensures empty { self.new ≡ [] }
+    {
+        self.bytes.clear();
+        if self.bytes.capacity() > MOST_ROOM {
+            self.bytes = BytesMut::new(*self.bytes.allocator());
+        }
     }
 
     /// How many bytes stand before the first such byte, or as many as it was looked for among.

@@ -19,7 +19,10 @@ pub fn bad_reply(alloc: Global, kind: &BadRequest) -> Result<Reply, NoMemory>
         BadRequest::LineTooLong => Reply::error(alloc, b"ERR Protocol error: line too long"),
         BadRequest::NoLineEnd => Reply::error(alloc, b"ERR Protocol error: line end expected"),
         BadRequest::Quote => {
-            Reply::error(alloc, b"ERR Protocol error: quoted inline words are not served")
+            Reply::error(
+                alloc,
+                b"ERR Protocol error: quoted inline words are not served",
+            )
         }
     }
 }

@@ -9,7 +9,7 @@ loop-rest-preserved c =
     let trimmed = rw c.split_at.ensures.back at next.ensures in
     record {
       words = rw (c.in_ok-push.ensures.ok, c.in_ok-from_slice.ensures.bytes, c.split_at.ensures.front)
-        (words_of-push c.loop-rest.words c.loop-rest.rest.now next.result.now c.run.result c.run.ensures some (c.loop-rest.invariant.begins some) trimmed ∙ c.loop-rest.invariant.words);
+          (words_of-push c.loop-rest.words c.loop-rest.rest.now next.result.now c.run.result c.run.ensures some (c.loop-rest.invariant.begins some) trimmed ∙ c.loop-rest.invariant.words);
       begins = next.ensures.begins;
     }
 

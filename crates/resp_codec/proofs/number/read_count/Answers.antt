@@ -13,7 +13,7 @@ pub returns-in_default-clause-none : goal.returns-in_default-clause-none
 returns-in_default-clause-none c =
     let text = c.args.text.now in
     IsNoCount-signed text c.if-text-ne45.false (λ n some small e.
-      omega (arith, decimal_injective n c.in-Some.number (omega arith) (omega (arith, c.in-Some.ensures.most)) (sym (take_rest text 1 ∙ e) ∙ c.in-Some.ensures.text)))
+    omega (arith, decimal_injective n c.in-Some.number (omega arith) (omega (arith, c.in-Some.ensures.most)) (sym (take_rest text 1 ∙ e) ∙ c.in-Some.ensures.text)))
 
 pub returns-in_default-2-clause-none : goal.returns-in_default-2-clause-none
 returns-in_default-2-clause-none c =

@@ -13,4 +13,4 @@ refuse-requires-clause-bad c =
     let read_is = rw c.requires.stage at s.read_is in
     rw c.requires.stage
     (bad_length (header 42 s.count ++ flat_map bulk s.words) s.input c.args.end (s.read + 0) (IsBegun-words s.count s.words due) c.requires.mark c.requires.line
-      (λ n small e. c.in_default.ensures.none n small (take_rest c.front.result.now 1 ∙ ap (λ bytes. drop 1 bytes) c.front.ensures.front ∙ e)) (omega arith))
+    (λ n small e. c.in_default.ensures.none n small (take_rest c.front.result.now 1 ∙ ap (λ bytes. drop 1 bytes) c.front.ensures.front ∙ e)) (omega arith))
