@@ -40,32 +40,41 @@ def long_value(size):
 
 
 
+# Each load with the size of the whole, and whether it is fed byte by byte, by dd.
 LOADS = [
-    ("one request of 500,000 words of 4 bytes", many_words, 500_000),
-    ("one request of 1,000,000 words of 4 bytes", many_words, 1_000_000),
-    ("500,000 requests of PING", pings, 500_000),
-    ("1,000 inline lines of 65,536 bytes", inline_lines, 1_000),
-    ("one word of 512 MiB", long_value, 536_870_912),
+    ("one request of 500,000 words of 4 bytes", many_words, 500_000, False),
+    ("one request of 1,000,000 words of 4 bytes", many_words, 1_000_000, False),
+    ("500,000 requests of PING", pings, 500_000, False),
+    ("1,000 inline lines of 65,536 bytes", inline_lines, 1_000, False),
+    ("one word of 512 MiB", long_value, 536_870_912, False),
+    ("byte by byte, one request of 200,000 words", many_words, 200_000, True),
+    ("byte by byte, 30 inline lines of 65,536 bytes", inline_lines, 30, True),
+    ("byte by byte, one word of 2 MiB", long_value, 2_097_152, True),
 ]
 
 
-def run(data):
+def run(data, bytewise=False):
     """Seconds and peak kilobytes of one run over the bytes, from a file and to nowhere."""
     with tempfile.TemporaryDirectory() as folder:
         path = os.path.join(folder, "input")
         with open(path, "wb") as out:
             out.write(data)
         # A small interpreter starts it, since a child's peak counts what its parent held.
-        told = subprocess.run([sys.executable, __file__, "--measure", path], stdout=subprocess.PIPE)
+        told = subprocess.run([sys.executable, __file__, "--measure", path] + ["bytewise"] * bytewise,
+                              stdout=subprocess.PIPE)
         if told.returncode != 0:
             sys.exit(told.returncode)
         seconds, kilobytes = told.stdout.split()
         return float(seconds), int(kilobytes)
 
 
-def measure(path):
+def measure(path, bytewise):
     with open(path, "rb") as stdin:
         start = time.monotonic()
+        if bytewise:
+            stdin = subprocess.Popen(
+                ["dd", "bs=1"], stdin=stdin, stdout=subprocess.PIPE, stderr=subprocess.DEVNULL
+            ).stdout
         child = subprocess.Popen(
             [PROGRAM, "pipe", os.path.dirname(path)], stdin=stdin, stdout=subprocess.DEVNULL
         )
@@ -102,9 +111,9 @@ def redis_pings(count):
 
 def main():
     subprocess.run([PROGRAM, "--version"], stdout=subprocess.DEVNULL, check=True)
-    for name, make, count in LOADS:
-        tenth, tenth_memory = run(make(count // 10))
-        whole, memory = run(make(count))
+    for name, make, count, bytewise in LOADS:
+        tenth, tenth_memory = run(make(count // 10), bytewise)
+        whole, memory = run(make(count), bytewise)
         print(f"{name}: {whole:.2f} s, {memory // 1024} MiB; a tenth: {tenth:.2f} s, "
               f"{tenth_memory // 1024} MiB; ratio {whole / tenth:.1f}")
     theirs = redis_pings(500_000)
@@ -117,6 +126,6 @@ def main():
 
 if __name__ == "__main__":
     if sys.argv[1:2] == ["--measure"]:
-        measure(sys.argv[2])
+        measure(sys.argv[2], sys.argv[3:] == ["bytewise"])
     else:
         main()
