@@ -1,6 +1,7 @@
 //! Which calls of an object in memory fail.
 
-ghost use Rattle.std.specs.Prelude.{◌≡◌, ◌≤◌, IfOk};
+ghost use Rattle.std.specs.Prelude.{◌≡◌, ◌≤◌, ◌+◌, ◌-◌, ◌^◌, ◌==◌, min, IfOk};
+ghost use Rattle.std.specs.List.{list_any};
 ghost use Rattle.std.specs.Bool.{OnTrue, OnFalse};
 ghost use Rattle.core_types.specs.Causes.{Rose};
 
@@ -19,7 +20,9 @@ pub struct FaultPlan {
 impl FaultPlan {
     /// Fails at the calls of these numbers.
     pub fn new(alloc: Global, fails: &[u64]) -> Result<FaultPlan, NoMemory>
-        ensures none { IfOk result (λ plan. plan.faults ≡ 0) }
+        ensures fails { IfOk result (λ plan. plan.fails.items ≡ fails.now) }
+        ensures calls { IfOk result (λ plan. plan.calls ≡ 0) }
+        ensures faults { IfOk result (λ plan. plan.faults ≡ 0) }
     {
         Ok(FaultPlan {
             fails: Vec::from_slice(alloc, fails)?,
@@ -30,6 +33,9 @@ impl FaultPlan {
 
     /// Counts a call, and answers whether it fails.
     pub fn strikes(&mut self) -> bool
+        ensures listed { result ≡ list_any (λ call. call == min (self.old.calls + 1) (2 ^ 64 - 1)) self.old.fails.items }
+        ensures counted { self.new.calls ≡ min (self.old.calls + 1) (2 ^ 64 - 1) }
+        ensures kept { self.new.fails.items ≡ self.old.fails.items }
         ensures later { self.old.faults ≤ self.new.faults }
         ensures fails { OnTrue result (Rose self.old.faults self.new.faults) }
         ensures goes_on { OnFalse result (self.new.faults ≡ self.old.faults) }

@@ -1,6 +1,6 @@
 //! A source and a sink in memory, which tell their content and fail at the calls they are told to.
 
-ghost use Rattle.std.specs.Prelude.{◌≡◌, ◌≤◌, Some, min, length, take, drop, IfOk};
+ghost use Rattle.std.specs.Prelude.{◌≡◌, ◌≤◌, [], Some, min, length, take, drop, IfOk};
 
 use crate::fault_plan::FaultPlan;
 use crate::sink::{Sink, SinkFault};
@@ -11,15 +11,20 @@ use std::alloc::Global;
 /// A source of the bytes that it was made with.
 #[derive(Drop)]
 pub struct MemorySource {
-    bytes: Blob,
-    taken: usize,
+    /// All bytes that it was made with.
+    pub bytes: Blob,
+    /// How many of them were taken.
+    pub taken: usize,
     plan: FaultPlan,
     ghost within: { taken ≤ length bytes },
 }
 
 impl MemorySource {
     /// A source of these bytes, which fails at the calls of these numbers, counted from 1.
-    pub fn new(alloc: Global, bytes: &[u8], fails: &[u64]) -> Result<MemorySource, NoMemory> {
+    pub fn new(alloc: Global, bytes: &[u8], fails: &[u64]) -> Result<MemorySource, NoMemory>
+        ensures bytes { IfOk result (λ source. source.bytes ≡ bytes.now) }
+        ensures untaken { IfOk result (λ source. source.taken ≡ 0) }
+    {
         Ok(MemorySource {
             bytes: Blob::from_slice(alloc, bytes)?,
             taken: 0,
@@ -47,13 +52,16 @@ impl Source for MemorySource {
 /// A sink that keeps what it gets.
 #[derive(Drop)]
 pub struct MemorySink {
-    bytes: Blob,
+    /// What it got.
+    pub bytes: Blob,
     plan: FaultPlan,
 }
 
 impl MemorySink {
     /// An empty sink, which fails at the calls of these numbers, counted from 1.
-    pub fn new(alloc: Global, fails: &[u64]) -> Result<MemorySink, NoMemory> {
+    pub fn new(alloc: Global, fails: &[u64]) -> Result<MemorySink, NoMemory>
+        ensures empty { IfOk result (λ sink. sink.bytes ≡ []) }
+    {
         Ok(MemorySink {
             bytes: Blob::new(alloc),
             plan: FaultPlan::new(alloc, fails)?,

@@ -31,7 +31,8 @@ pub trait Sink {
 #[derive(Drop)]
 pub struct RealSink<W: Write + Drop> {
     writer: W,
-    faults: u64,
+    /// How often it has failed.
+    pub faults: u64,
 }
 
 impl<W: Write + Drop> RealSink<W> {

@@ -31,7 +31,8 @@ pub trait Source {
 #[derive(Drop)]
 pub struct RealSource<R: Read + Drop> {
     reader: R,
-    faults: u64,
+    /// How often it has failed.
+    pub faults: u64,
 }
 
 impl<R: Read + Drop> RealSource<R> {
