@@ -1,8 +1,11 @@
 -- What was passed, piece after piece.
-use Rattle.std.proofs.Common.{◌≡◌, ℕ, ◌+◌, List, [], ◌∷◌, ◌++◌, length, refl, sym, ap, ◌∙◌, append_assoc, append-nil, arith}
+use Rattle.std.proofs.Common.{◌≡◌, ℕ, ◌+◌, List, [], ◌∷◌, ◌++◌, length, refl, sym, ap, ◌∙◌, append_assoc, append-nil, arith, Result, Ok, Err, OnErr}
 use Rattle.std.specs.List.{concat}
 use Rattle.std.proofs.lemmas.List.{length-append}
 use Rattle.core_types.specs.declared.bad_request.BadRequest.{BadRequest}
+use Rattle.core_types.specs.declared.no_memory.NoMemory.{NoMemory}
+use Rattle.resp_codec.specs.declared.reader.Got.{Got}
+use Rattle.resp_codec.specs.declared.reader.Got.TheVariants as got
 use Rattle.resp_codec.specs.Spelling.{Spells, Skips, SkipsAll}
 use Rattle.resp_codec.specs.Stream.{Stream, fed, Passes, Takes, SkipsOnly, IsUnfinished, Waits, Refuses}
 
@@ -87,16 +90,9 @@ Passes-fed : (old new : Stream) (bytes : List ℕ) → Passes old new bytes → 
 Passes-fed old new bytes passes = omega (arith, passes.passed, ap (λ (bs : List ℕ). length bs) passes.rest, length-append bytes new.rest)
 
 -- what was fed is the same after each answer
-pub fed-takes : (old new : Stream) (words : List (List ℕ)) → Takes old new words → fed new ≡ fed old
-fed-takes old new words takes = Passes-fed old new (concat takes.skipped ++ takes.bytes) takes.passes
-
-pub fed-waits : (old new : Stream) → Waits old new → fed new ≡ fed old
-fed-waits old new waits = Passes-fed old new (concat waits.skipped) waits.passes
-
-pub fed-refuses : (old new : Stream) (kind : BadRequest) (offset : ℕ) → Refuses old new kind offset → fed new ≡ fed old
-fed-refuses old new kind offset refuses = Passes-fed old new (concat refuses.skipped) refuses.passes
-
-pub fed-skips : (old new : Stream) → SkipsOnly old new → fed new ≡ fed old
-fed-skips old new skips = Passes-fed old new (concat skips.skipped) skips.passes
-
-pub ruleset fed_same = (fed-takes, fed-waits, fed-refuses, fed-skips)
+pub fed_next : (old new : Stream) (r : Result Got NoMemory) → ((words : List (List ℕ)) → r ≡ Ok (got.Request words) → Takes old new words) → (r ≡ Ok got.More → Waits old new) →
+    ((kind : BadRequest) (offset : ℕ) → r ≡ Ok (got.Bad kind offset) → Refuses old new kind offset) → OnErr r (SkipsOnly old new) → fed new ≡ fed old
+fed_next old new (Ok (got.Request words)) request more bad err = let takes = request words refl in Passes-fed old new (concat takes.skipped ++ takes.bytes) takes.passes
+fed_next old new (Ok got.More) request more bad err = let waits = more refl in Passes-fed old new (concat waits.skipped) waits.passes
+fed_next old new (Ok (got.Bad kind offset)) request more bad err = let refuses = bad kind offset refl in Passes-fed old new (concat refuses.skipped) refuses.passes
+fed_next old new (Err e) request more bad err = Passes-fed old new (concat err.skipped) err.passes

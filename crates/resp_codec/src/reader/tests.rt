@@ -2,16 +2,23 @@ ghost use Rattle.std.specs.Prelude.{◌≡◌, ◌<◌, ◌+◌, ◌^◌, length
 ghost use Rattle.resp_codec.specs.Stream.{fed};
 
 use crate::{Got, Reader, bad_reply, write_reply};
-use core_types::{BadRequest, Blob};
+use core_types::{BadRequest, Blob, NoMemory};
 use std::alloc::Global;
 use std::test::Fail;
 
+// The next answer, which changes nothing of what was fed.
+#[tactic(auto, using(crate::proofs::Passing::fed_next))]
+fn next(reader: &mut Reader) -> Result<Got, NoMemory>
+    ensures fed { fed reader.new ≡ fed reader.old }
+{
+    reader.next()
+}
+
 // Says a request at the end of the text, its words in brackets. Where none comes, answers why.
-#[tactic(auto, using(crate::proofs::Passing::fed_same))]
 fn say_next(alloc: Global, reader: &mut Reader, text: &mut Vec<u8>) -> Result<Option<String>, Fail>
     ensures fed { fed reader.new ≡ fed reader.old }
 {
-    let words = match reader.next()? {
+    let words = match next(reader)? {
         Got::Request(words) => words,
         Got::More => return Ok(Some(String::from_str(alloc, "more")?)),
         Got::Bad(kind, offset) => return Ok(Some(format!(in alloc; "{kind:?} {offset}")?)),
@@ -149,28 +156,36 @@ fn streams(rt: HostRuntime) -> Result<(), Fail> {
     Ok(())
 }
 
+// Why no more requests come, before and after the second piece, and how many bytes are left.
+fn ends(alloc: Global, bytes: &[u8], more: &[u8]) -> Result<(String, String, u64), Fail>
+    requires { length bytes.now < 100000 }
+{
+    let mut reader = Reader::new(alloc);
+    let mut text = Vec::new(alloc);
+    reader.feed(bytes)?;
+    let first = say_all(alloc, &mut reader, &mut text)?;
+    reader.feed(more)?;
+    let second = say_all(alloc, &mut reader, &mut text)?;
+    Ok((first, second, reader.rest()))
+}
+
 // What comes after a bad request changes nothing, and the rest begins with it.
 #[test]
 fn bad_for_good(rt: HostRuntime) -> Result<(), Fail> {
     let alloc = rt.alloc();
     let rows: [(&[u8], &str); 5] = [
-        (b"*x\r\n", "MultibulkLength 11"),
-        (b"*1\r\n$x\r\n", "BulkLength 15"),
-        (b"*1\r\n:", "ExpectedDollar(58) 15"),
-        (b"*1\rX", "NoLineEnd 14"),
-        (b"'\n", "Quote 11"),
+        (b"PING\n*-1\r\n\n*x\r\n", "MultibulkLength 11"),
+        (b"PING\n*-1\r\n\n*1\r\n$x\r\n", "BulkLength 15"),
+        (b"PING\n*-1\r\n\n*1\r\n:", "ExpectedDollar(58) 15"),
+        (b"PING\n*-1\r\n\n*1\rX", "NoLineEnd 14"),
+        (b"PING\n*-1\r\n\n'\n", "Quote 11"),
     ];
     for (bytes, expected) in rows {
-        let mut reader = Reader::new(alloc);
-        reader.feed(b"PING\n*-1\r\n\n")?;
-        reader.feed(bytes)?;
-        let mut text = Vec::new(alloc);
-        assert_eq!(rt; say_all(alloc, &mut reader, &mut text)?.as_str(), expected);
-        assert_eq!(rt; reader.rest(), bytes.len() as u64);
-        reader.feed(b"PING\n")?;
-        assert_eq!(rt; say_all(alloc, &mut reader, &mut text)?.as_str(), expected);
-        assert_eq!(rt; reader.rest(), bytes.len() as u64 + 5);
-        assert_eq!(rt; text.as_slice(), b"[PING] ".as_slice());
+        assert!(rt; bytes.len() < 100);
+        let (first, second, rest) = ends(alloc, bytes, b"PING\n")?;
+        assert_eq!(rt; first.as_str(), expected);
+        assert_eq!(rt; second.as_str(), expected);
+        assert_eq!(rt; rest, (bytes.len() as u64).saturating_sub(6));
     }
     Ok(())
 }
@@ -184,20 +199,16 @@ fn longest_lines(rt: HostRuntime) -> Result<(), Fail> {
         (b"*1\r\n$", "BulkLength 4", "LineTooLong 4"),
         (b"\n'", "Quote 1", "LineTooLong 1"),
     ];
-    let ones = vec![in alloc; b'1'; 65_534]?;
     for (front, whole, long) in rows {
-        let mut text = Vec::new(alloc);
-        let mut reader = Reader::new(alloc);
-        reader.feed(front)?;
-        reader.feed(&ones)?;
-        assert_eq!(rt; say_all(alloc, &mut reader, &mut text)?.as_str(), "more");
-        reader.feed(b"\r\n")?;
-        assert_eq!(rt; say_all(alloc, &mut reader, &mut text)?.as_str(), whole);
-        let mut reader = Reader::new(alloc);
-        reader.feed(front)?;
-        reader.feed(&ones)?;
-        reader.feed(b"11")?;
-        assert_eq!(rt; say_all(alloc, &mut reader, &mut text)?.as_str(), long);
+        assert!(rt; front.len() < 100);
+        let mut bytes = Vec::from_slice(alloc, front)?;
+        bytes.resize(front.len() + 65_534, b'1')?;
+        assert!(rt; bytes.len() < 100_000);
+        let (first, second, _) = ends(alloc, &bytes, b"\r\n")?;
+        assert_eq!(rt; first.as_str(), "more");
+        assert_eq!(rt; second.as_str(), whole);
+        let (_, second, _) = ends(alloc, &bytes, b"111")?;
+        assert_eq!(rt; second.as_str(), long);
     }
     Ok(())
 }
