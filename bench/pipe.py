@@ -1,8 +1,8 @@
 #!/usr/bin/env python3
 """How the cost of `modhost pipe` grows: each load against a tenth of it, and against redis-server in one run.
 
-Prints seconds and peak memory of each load, and the ratios. Needs the toolchain; redis-server and redis-cli
-are used where they are installed.
+Prints seconds of the processor and peak memory of each load, and the ratios; the comparison is in seconds of
+the clock. Needs the toolchain; redis-server and redis-cli are used where they are installed.
 """
 
 import os
@@ -54,7 +54,7 @@ LOADS = [
 
 
 def run(data, bytewise=False):
-    """Seconds and peak kilobytes of one run over the bytes, from a file and to nowhere."""
+    """Seconds of the clock and of the processor, and peak kilobytes, of one run over the bytes, to nowhere."""
     with tempfile.TemporaryDirectory() as folder:
         path = os.path.join(folder, "input")
         with open(path, "wb") as out:
@@ -64,8 +64,8 @@ def run(data, bytewise=False):
                               stdout=subprocess.PIPE)
         if told.returncode != 0:
             sys.exit(told.returncode)
-        seconds, kilobytes = told.stdout.split()
-        return float(seconds), int(kilobytes)
+        clock, processor, kilobytes = told.stdout.split()
+        return float(clock), float(processor), int(kilobytes)
 
 
 def measure(path, bytewise):
@@ -79,10 +79,10 @@ def measure(path, bytewise):
             [PROGRAM, "pipe", os.path.dirname(path)], stdin=stdin, stdout=subprocess.DEVNULL
         )
         _, status, usage = os.wait4(child.pid, 0)
-        seconds = time.monotonic() - start
+        clock = time.monotonic() - start
     if status != 0:
         sys.exit(f"modhost ended with {os.waitstatus_to_exitcode(status)}")
-    print(seconds, usage.ru_maxrss)
+    print(clock, usage.ru_utime + usage.ru_stime, usage.ru_maxrss)
 
 
 def redis_pings(count):
@@ -112,15 +112,15 @@ def redis_pings(count):
 def main():
     subprocess.run([PROGRAM, "--version"], stdout=subprocess.DEVNULL, check=True)
     for name, make, count, bytewise in LOADS:
-        tenth, tenth_memory = run(make(count // 10), bytewise)
-        whole, memory = run(make(count), bytewise)
-        print(f"{name}: {whole:.2f} s, {memory // 1024} MiB; a tenth: {tenth:.2f} s, "
+        _, tenth, tenth_memory = run(make(count // 10), bytewise)
+        _, whole, memory = run(make(count), bytewise)
+        print(f"{name}: {whole:.3f} s, {memory // 1024} MiB; a tenth: {tenth:.3f} s, "
               f"{tenth_memory // 1024} MiB; ratio {whole / tenth:.1f}")
     theirs = redis_pings(500_000)
     if theirs is None:
         print("redis-server is not installed: no comparison")
     else:
-        ours, _ = run(pings(500_000))
+        ours, _, _ = run(pings(500_000))
         print(f"500,000 PINGs: modhost {ours:.2f} s, redis-server {theirs:.2f} s, ratio {ours / theirs:.2f}")
 
 

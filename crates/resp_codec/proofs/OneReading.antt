@@ -1,14 +1,15 @@
 -- One reading of a stream.
-use Rattle.std.proofs.Common.{◌≡◌, ◌≢◌, ℕ, ◌+◌, ◌<◌, ◌≤◌, Bool, true, false, ◌==◌, List, [], ◌∷◌, ◌++◌, length, take, refl, sym, ap, subst, ◌∙◌, append_assoc, arith, inl, inr}
-use Rattle.std.specs.List.{list_any}
+use Rattle.std.proofs.Common.{◌+◌, ◌≡◌, ◌≢◌, ℕ, ◌<◌, ◌≤◌, Bool, true, false, ◌==◌, List, [], ◌∷◌, ◌++◌, length, take, refl, sym, ap, subst, ◌∙◌, append_assoc, arith, inl, inr}
+use Rattle.std.specs.List.{list_any, concat}
 use Rattle.std.specs.Fmt.{decimal}
 use Rattle.std.proofs.lemmas.List.{take_at, take-append-le, length-append}
 use Rattle.core_types.specs.declared.bad_request.BadRequest.{BadRequest}
 use Rattle.core_types.specs.declared.bad_request.BadRequest.TheVariants.{MultibulkLength, BulkLength, ExpectedDollar, LineTooLong, NoLineEnd, Quote}
-use Rattle.resp_codec.specs.Spelling.{crlf, Spells, Skips}
+use Rattle.resp_codec.specs.Spelling.{crlf, Spells, Skips, SkipsAll}
 use Rattle.resp_codec.specs.Inline.{begins_array}
 use Rattle.resp_codec.specs.Faults.{HeaderDue, LongHeader, LoneReturn, BadWordEnd, BadAt}
-use Rattle.resp_codec.proofs.Judging.{Judged, judge}
+use Rattle.resp_codec.specs.Stream.{Stream, Takes, Waits, Refuses}
+use Rattle.resp_codec.proofs.Judging.{judge}
 use Rattle.resp_codec.proofs.Judging.Judged.{Took, Passed, Wrong}
 use Rattle.resp_codec.proofs.Verdicts.{spells_verdict, skips_verdict, bad_verdict}
 
@@ -153,3 +154,25 @@ fault_stays bytes more Quote at bad = record {
   first = bad.first;
   place = bad.place;
 }
+
+-- what is bad begins with nothing that is skipped
+nothing_skipped : (skipped : List (List ℕ)) (bytes rest : List ℕ) (kind : BadRequest) (at : ℕ) → BadAt bytes kind at → SkipsAll skipped → bytes ≡ concat skipped ++ rest → (concat skipped ≡ []) × (bytes ≡ rest)
+nothing_skipped [] bytes rest kind at bad skips e = (refl, e)
+nothing_skipped (piece ∷ skipped) bytes rest kind at bad skips e =
+    absurd (skip_no_fault piece (concat skipped ++ rest) kind at skips.0 (subst (λ (b : List ℕ). BadAt b kind at) (e ∙ append_assoc piece (concat skipped) rest) bad))
+
+pub refused_again : (old new : Stream) (kind other : BadRequest) (at offset : ℕ) → BadAt old.rest kind at → Refuses old new other offset → (other ≡ kind) × (offset ≡ old.passed + at)
+refused_again old new kind other at offset bad refuses =
+    let nothing = nothing_skipped refuses.skipped old.rest new.rest kind at bad refuses.skips refuses.passes.rest in
+    let same = fault_one new.rest other kind refuses.at at refuses.bad (subst (λ (b : List ℕ). BadAt b kind at) nothing.1 bad) in
+    (same.0, omega (arith, same.1, refuses.place, refuses.passes.passed, ap (λ (b : List ℕ). length b) nothing.0))
+
+pub none_taken : (old new : Stream) (kind : BadRequest) (at : ℕ) (words : List (List ℕ)) → BadAt old.rest kind at → ¬ Takes old new words
+none_taken old new kind at words bad takes =
+    let nothing = nothing_skipped takes.skipped old.rest (takes.bytes ++ new.rest) kind at bad takes.skips (takes.passes.rest ∙ append_assoc (concat takes.skipped) takes.bytes new.rest) in
+    request_no_fault words takes.bytes new.rest kind at takes.spells (subst (λ (b : List ℕ). BadAt b kind at) nothing.1 bad)
+
+pub none_awaited : (old new : Stream) (kind : BadRequest) (at : ℕ) → BadAt old.rest kind at → ¬ Waits old new
+none_awaited old new kind at bad waits =
+    let nothing = nothing_skipped waits.skipped old.rest new.rest kind at bad waits.skips waits.passes.rest in
+    waits.unfinished.no_fault kind at (subst (λ (b : List ℕ). BadAt b kind at) nothing.1 bad)

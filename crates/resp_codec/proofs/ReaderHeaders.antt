@@ -1,13 +1,12 @@
 -- Where the search for a header's CR ended, and what stands there.
-use Rattle.std.proofs.Common.{◌≡◌, ◌≢◌, ◌⊎◌, ℕ, suc, ◌+◌, ◌<◌, ◌≤◌, List, [], ◌∷◌, ◌++◌, length, take, drop, get_or, refl, sym, ap, ◌∙◌, append_assoc, append-nil, arith, inl, inr}
+use Rattle.std.proofs.Common.{◌≡◌, ◌≢◌, ℕ, ◌+◌, ◌≤◌, List, [], ◌∷◌, ◌++◌, length, take, drop, get_or, refl, sym, ap, ◌∙◌, append_assoc, arith, inl, inr}
 use Rattle.std.proofs.lemmas.Grind.{common_steps}
 use Rattle.std.proofs.lemmas.List.{length-take-le, take-append-drop, take_all, drop_more, drop_all}
 use Rattle.core_types.specs.declared.bad_request.BadRequest.TheVariants.{LineTooLong, NoLineEnd}
 use Rattle.resp_codec.specs.Spelling.{crlf}
-use Rattle.resp_codec.specs.Faults.{HeaderDue, IsHeaderText, LongHeader, LoneReturn, BadAt}
-use Rattle.resp_codec.specs.Stream.{IsUnfinished}
+use Rattle.resp_codec.specs.Faults.{IsHeaderText}
 use Rattle.resp_codec.specs.Line.{IsSearchEnd, IsFound}
-use Rattle.resp_codec.specs.Header.{IsHeaderLine, Judges}
+use Rattle.resp_codec.specs.Header.{Judges}
 use Rattle.resp_codec.specs.declared.header.Header.TheVariants as answer
 use Rattle.resp_codec.specs.declared.line.LineEnd.TheVariants as found
 use Rattle.resp_codec.proofs.Judging.{head, head-none, head-alone}

@@ -1,11 +1,10 @@
 -- What the part that is due says of the stream.
-use Rattle.std.proofs.Common.{◌≡◌, ◌≢◌, ◌⊎◌, ℕ, zero, suc, ◌+◌, ◌<◌, ◌≤◌, false, List, [], ◌∷◌, ◌++◌, length, take, drop, get_or, slice_get, Some, None, refl, sym, ap, subst, ◌∙◌, append_assoc, append-nil, arith, inl, inr}
+use Rattle.std.proofs.Common.{◌≡◌, ◌≢◌, ℕ, zero, suc, ◌+◌, ◌<◌, ◌≤◌, false, List, [], ◌∷◌, ◌++◌, length, take, drop, get_or, slice_get, Some, None, refl, sym, ap, subst, ◌∙◌, append_assoc, arith, inl, inr}
 use Rattle.std.specs.Fmt.{decimal, signed_decimal}
 use Rattle.std.specs.List.{flat_map, AllByRecursion, list_any}
-use Rattle.std.proofs.lemmas.List.{length-append, length-take, length-take-le, length-drop, length_push, flat_map_more, take-append-drop, drop_all, drop_more}
-use Rattle.core_types.specs.declared.bad_request.BadRequest.TheVariants as bad
+use Rattle.std.proofs.lemmas.List.{length-append, length-take, length-take-le, length-drop, length_push, flat_map_more, drop_all, drop_more}
 use Rattle.resp_codec.specs.Inline.{begins_array, IsLine, is_quote, line_words}
-use Rattle.resp_codec.specs.Spelling.{Skips, crlf, bulk, multibulk, IsWord, IsRequest, IsInline}
+use Rattle.resp_codec.specs.Spelling.{crlf, bulk, multibulk, IsWord, IsRequest, IsInline}
 use Rattle.resp_codec.specs.Faults.{IsBegun, HeaderDue, BadLength, BadMark, BadWordEnd, LongLine, QuotedLine, IsNoLength, IsHeaderText}
 use Rattle.resp_codec.specs.Stream.{IsUnfinished, SkipsOnly, Takes}
 use Rattle.resp_codec.specs.Number.{IsNoneOrFewer}
@@ -14,7 +13,7 @@ use Rattle.resp_codec.specs.Run.{IsFirstQuote}
 use Rattle.resp_codec.specs.declared.line.LineEnd.TheVariants as found
 use Rattle.resp_codec.specs.Line.{IsFound, IsSearchEnd, IsInlineLine}
 use Rattle.resp_codec.specs.Underway.{HasMore}
-use Rattle.resp_codec.proofs.Judging.{judge, judge-open, piece, piece-length, piece_end}
+use Rattle.resp_codec.proofs.Judging.{judge, judge-open, piece-length, piece_end}
 use Rattle.resp_codec.proofs.Judging.Piece.{NoWord}
 use Rattle.resp_codec.proofs.Verdicts.{IsUnfinished-from_short}
 use Rattle.resp_codec.proofs.ReaderHeaders.{one_at, two_at}

@@ -1,21 +1,21 @@
 -- Each definition of what stands at the front of a stream, as it is judged.
-use Rattle.std.proofs.Common.{◌≡◌, ◌≢◌, ◌⊎◌, ℕ, zero, suc, ◌+◌, ◌-◌, ◌<◌, ◌≤◌, ◌^◌, Bool, true, false, cond, eqb, ltb, List, [], ◌∷◌, ◌++◌, length, take, drop, refl, sym, ap, ◌∙◌, append_assoc, append-nil, arith, inl, inr, Option, Some, None}
-use Rattle.std.specs.List.{list_any, flat_map}
+use Rattle.std.proofs.Common.{◌≡◌, ℕ, ◌+◌, ◌<◌, true, false, eqb, List, [], ◌∷◌, ◌++◌, length, refl, sym, ap, ◌∙◌, append_assoc, arith, inl, inr, Option}
+use Rattle.std.specs.List.{list_any}
 use Rattle.std.specs.Fmt.{decimal, signed_decimal}
-use Rattle.std.proofs.lemmas.Bool.{ne_eqb, eqb-true, lt-ltb, le-ltb}
+use Rattle.std.proofs.lemmas.Bool.{ne_eqb, lt-ltb, le-ltb}
 use Rattle.std.proofs.lemmas.List.Folds.{list_any-append}
-use Rattle.std.proofs.lemmas.List.{length-append, append_cancel_left, take_at}
+use Rattle.std.proofs.lemmas.List.{length-append}
 use Rattle.core_types.specs.declared.bad_request.BadRequest.{BadRequest}
 use Rattle.core_types.specs.declared.bad_request.BadRequest.TheVariants.{MultibulkLength, BulkLength, ExpectedDollar, LineTooLong, NoLineEnd, Quote}
-use Rattle.resp_codec.specs.Inline.{IsLine, begins_array, is_quote, line_words}
-use Rattle.resp_codec.specs.Spelling.{crlf, bulk, multibulk, IsInline, IsEmptyArray, Spells, Skips}
-use Rattle.resp_codec.specs.Faults.{HeaderDue, IsBegun, IsHeaderText, BadCount, BadLength, BadMark, LongHeader, LongLine, LoneReturn, BadWordEnd, QuotedLine, BadAt}
+use Rattle.resp_codec.specs.Inline.{IsLine, begins_array, is_quote}
+use Rattle.resp_codec.specs.Spelling.{crlf, IsInline, Spells, Skips}
+use Rattle.resp_codec.specs.Faults.{HeaderDue, IsBegun, BadCount, BadLength, BadMark, LongHeader, LongLine, LoneReturn, BadWordEnd, QuotedLine, BadAt}
 use Rattle.resp_codec.specs.Stream.{IsUnfinished}
-use Rattle.resp_codec.proofs.Cuts.{before_first, from_first, before_first-at, from_first-at, before_first-none, from_first-none, before_first-long}
+use Rattle.resp_codec.proofs.Cuts.{before_first, before_first-at, from_first-at, before_first-long}
 use Rattle.resp_codec.proofs.Counts.{natural-other, count_of-none, count_of-other, IsHeaderText-signed}
-use Rattle.resp_codec.proofs.Judging.{Head, Piece, Judged, head, piece, piece_head, piece_feed, piece_end, piece_body, judge, judge_head, judge_array, judge_words, judge_line, judge_inline, judge_cut, head-whole, head-lone, head-endless, piece-header, piece-word, judge-header, judge-begun, judge-open, judge-bad, judge_at_array, judge_at_line}
-use Rattle.resp_codec.proofs.Judging.Head.{Open, Endless, Lone, Whole}
-use Rattle.resp_codec.proofs.Judging.Piece.{NoWord, BadWord, Word}
+use Rattle.resp_codec.proofs.Judging.{Head, head, piece, piece_head, piece_body, judge, judge_head, judge_array, judge_line, judge_cut, head-lone, head-endless, piece-header, piece-word, judge-header, judge-begun, judge-open, judge-bad, judge_at_array, judge_at_line}
+use Rattle.resp_codec.proofs.Judging.Head.{Open, Endless, Lone}
+use Rattle.resp_codec.proofs.Judging.Piece.{BadWord}
 use Rattle.resp_codec.proofs.Judging.Judged.{Took, Passed, Short, Wrong}
 
 no_array : (line more : List ℕ) → begins_array line ≡ false → begins_array (line ++ 10 ∷ more) ≡ false

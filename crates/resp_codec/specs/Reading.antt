@@ -1,5 +1,5 @@
 -- What a step of reading says and does.
-use Rattle.std.specs.Prelude.{◌≡◌, ℕ, ◌<◌, ◌++◌, length}
+use Rattle.std.specs.Prelude.{◌<◌, ◌++◌, length}
 use Rattle.resp_codec.specs.Stream.{Stream, Takes, Waits, Refuses, SkipsOnly}
 use Rattle.resp_codec.specs.Underway.{begun}
 use Rattle.resp_codec.specs.declared.reading.Reading.{Reading}

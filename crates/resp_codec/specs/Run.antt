@@ -1,5 +1,5 @@
 -- What was found by going over a line.
-use Rattle.std.specs.Prelude.{◌≡◌, ◌≢◌, ℕ, ◌<◌, ◌≤◌, List, length, take, slice_index, Bool, true, false, not, Option, Some, None}
+use Rattle.std.specs.Prelude.{◌≡◌, ℕ, ◌<◌, ◌≤◌, List, length, take, slice_index, Bool, true, false, not, Option, Some, None}
 use Rattle.std.specs.List.{list_any}
 use Rattle.resp_codec.specs.Inline.{is_blank, is_quote, words_of}
 

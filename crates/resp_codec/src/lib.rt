@@ -21,5 +21,5 @@ mod reading;
 mod writer;
 
 pub use protocol_error::bad_reply;
-pub use reader::{Got, Reader, one_reading};
+pub use reader::{Got, Reader, bad_for_good, one_reading};
 pub use writer::{write_reply, write_request};

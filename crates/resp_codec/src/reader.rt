@@ -3,7 +3,7 @@
 ghost use Rattle.std.specs.Prelude.{◌≡◌, ◌≢◌, ◌<◌, ◌+◌, ◌^◌, ◌++◌, ℕ, List, [], length, Ok, OnOk, OnErr};
 ghost use Rattle.resp_codec.specs.Spelling.{Spells, Skips};
 ghost use Rattle.resp_codec.specs.Faults.{BadAt};
-ghost use Rattle.resp_codec.specs.Stream.{Takes, Waits, Refuses, SkipsOnly};
+ghost use Rattle.resp_codec.specs.Stream.{Stream, Takes, Waits, Refuses, SkipsOnly};
 ghost use Rattle.core_types.specs.declared.bad_request.BadRequest.{BadRequest};
 
 use crate::reading::Reading;
@@ -98,4 +98,14 @@ pub fn one_reading()
         → Spells a v → ¬ BadAt (a ++ x) kind at }
     ensures skip_without_fault { (a x : List ℕ) (kind : BadRequest) (at : ℕ) → Skips a
         → ¬ BadAt (a ++ x) kind at }
+{}
+
+/// Where a bad place stands at the front, a reader says so again and again, and nothing else.
+pub fn bad_for_good()
+    ensures again { (old new : Stream) (kind other : BadRequest) (at offset : ℕ) → BadAt old.rest kind at
+        → Refuses old new other offset → (other ≡ kind) × (offset ≡ old.passed + at) }
+    ensures no_request { (old new : Stream) (kind : BadRequest) (at : ℕ) (words : List (List ℕ))
+        → BadAt old.rest kind at → ¬ Takes old new words }
+    ensures no_wait { (old new : Stream) (kind : BadRequest) (at : ℕ) → BadAt old.rest kind at
+        → ¬ Waits old new }
 {}

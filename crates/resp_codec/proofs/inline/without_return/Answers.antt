@@ -1,4 +1,4 @@
-use Rattle.std.proofs.Common.{◌-◌, arith, refl}
+use Rattle.std.proofs.Common.{◌-◌, arith}
 use Rattle.std.proofs.Common.{length}
 use Rattle.resp_codec.proofs.InlineWords.{without_return-there, without_return-other, without_return-empty}
 use Rattle.resp_codec.proofs.inline.without_return.Goals as goal

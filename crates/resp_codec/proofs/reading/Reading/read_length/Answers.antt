@@ -1,4 +1,4 @@
-use Rattle.std.proofs.Common.{◌+◌, ◌++◌, length, sym, arith}
+use Rattle.std.proofs.Common.{◌+◌, ◌++◌, sym, arith}
 use Rattle.std.specs.List.{flat_map}
 use Rattle.resp_codec.specs.Spelling.{bulk}
 use Rattle.resp_codec.specs.Header.{header}

@@ -1,4 +1,4 @@
-use Rattle.std.proofs.Common.{◌+◌, arith, length, inr}
+use Rattle.std.proofs.Common.{◌+◌, arith, inr}
 use Rattle.resp_codec.proofs.ReaderSteps.{long_line}
 use Rattle.resp_codec.proofs.reading.Reading.read_line.Goals as goal
 

@@ -1,4 +1,4 @@
-use Rattle.std.proofs.Common.{◌+◌, ap, subst, length, sym, inr, arith}
+use Rattle.std.proofs.Common.{inr}
 use Rattle.resp_codec.specs.Reading.{seen}
 use Rattle.resp_codec.proofs.Passing.{Waits-here}
 use Rattle.resp_codec.proofs.ReaderSteps.{bad_word_end, unfinished_word}

@@ -1,6 +1,5 @@
-use Rattle.std.proofs.Common.{◌+◌, ◌∙◌, ap, length, drop, arith}
+use Rattle.std.proofs.Common.{◌+◌, arith}
 use Rattle.std.proofs.lemmas.List.{take_rest, length-drop}
-use Rattle.resp_codec.specs.Number.{IsCount}
 use Rattle.resp_codec.proofs.ReaderSteps.{skips_count}
 use Rattle.resp_codec.proofs.reading.Reading.take_count.Goals as goal
 

@@ -1,6 +1,6 @@
-use Rattle.std.proofs.Common.{◌+◌, sym, ap, arith}
+use Rattle.std.proofs.Common.{◌+◌, arith}
 use Rattle.std.proofs.lemmas.List.{length-drop}
-use Rattle.resp_codec.proofs.Passing.{SkipsOnly-none, stream}
+use Rattle.resp_codec.proofs.Passing.{SkipsOnly-none}
 use Rattle.resp_codec.proofs.ReaderSteps.{begun-push, takes_last}
 use Rattle.resp_codec.proofs.reading.Reading.take_word.Goals as goal
 
