@@ -115,6 +115,7 @@ impl Dir for MemoryDir {
             ≡ holding (with_appended name bytes.now self.old.files) (called self.old)) }
         ensures err { OnErr result (self.new ≡ holding self.new.files (failed self.old)) }
         ensures torn { OnErr result (IsTorn name bytes.now self.old.files self.new.files) }
+        ensures whole { ¬ NextFails self.old → OnErr result (self.new.files ≡ self.old.files) }
         ensures cause { HasCause self.old.faults self.new.faults result }
     {
         if let Err(fault) = self.begin() {

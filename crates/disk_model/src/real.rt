@@ -1,6 +1,6 @@
 //! A folder of the file system.
 
-ghost use Rattle.std.specs.Prelude.{◌≡◌, ◌≤◌, ℕ, None, IfOk};
+ghost use Rattle.std.specs.Prelude.{◌≡◌, ◌≤◌, ◌↔◌, ℕ, None, IfOk, IsErr, OnOk};
 ghost use Rattle.core_types.specs.Causes.{HasCause, Rose};
 
 mod file;
@@ -49,8 +49,10 @@ impl<R: Files + Drop> RealDir<R> {
         })
     }
 
-    // Counts a fault where the call has failed.
+    // Counts a fault where the call has failed, and there only.
     fn counted(&mut self, done: io::Result<()>) -> Result<(), DirFault>
+        ensures fails { IsErr result ↔ IsErr done }
+        ensures ok { OnOk result (self.new ≡ self.old) }
         ensures cause { HasCause self.old self.new result }
     {
         match done {

@@ -1,5 +1,5 @@
 -- What was served over a log that was opened for it.
-use Rattle.std.proofs.Common.{◌≡◌, ◌⊎◌, ℕ, ◌≤◌, List, [], ◌++◌, take, Option, Some, None, refl, sym, ap, ◌∙◌, inl, inr}
+use Rattle.std.proofs.Common.{◌⊎◌, ℕ, ◌≤◌, List, [], Option, Some, None, ap, ◌∙◌, inl, inr}
 use Rattle.std.specs.Option.{option_map}
 use Rattle.std.proofs.KnownBytes.{Keeps-refl}
 use Rattle.disk_model.specs.declared.file_name.FileName.TheVariants.{Log}
@@ -53,7 +53,7 @@ module _ (input left sent0 sent : Option (List ℕ)) (f g h : Option Files) (ope
   limit s = record { pieces = s.pieces; beyond = s.beyond; more = s.more; each = s.each; bytes = s.bytes; full = s.full; some = s.some; serves = serves s.pieces s.serves; going = s.going; begun = s.begun }
 
   logs : LogsPart old → LogsPart new
-  logs s = record { pieces = s.pieces; next = s.next; words = s.words; begins = begins _ s.begins; going = s.going; request = s.request; sent = s.sent; logged = (s.logged.0, opened_log _ f g h opened s.logged.1) }
+  logs s = record { pieces = s.pieces; next = s.next; words = s.words; begins = begins _ s.begins; going = s.going; request = s.request; sent = s.sent; logged = (s.logged.0, opened_log _ f g h opened s.logged.1); some = s.some }
 
   sends : SendsPart old → SendsPart new
   sends s = record { pieces = s.pieces; last = s.last; words = s.words; begins = begins _ s.begins; going = s.going; request = s.request; sent = s.sent; logged = opened_log _ f g h opened s.logged }

@@ -1,9 +1,9 @@
 -- What is served after one request more.
-use Rattle.std.proofs.Common.{◌≡◌, ◌≢◌, ℕ, ◌+◌, ◌^◌, ◌≤◌, List, [], ◌∷◌, ◌++◌, length, true, false, Option, Some, None, IfSome, unwrap_or, refl, sym, ap, subst, ◌∙◌, append_assoc, length-append, inr, arith}
+use Rattle.std.proofs.Common.{◌≡◌, ℕ, ◌+◌, List, [], ◌∷◌, ◌++◌, length, true, false, Option, Some, None, IfSome, unwrap_or, sym, ap, subst, ◌∙◌, append_assoc, length-append, inr, arith}
 use Rattle.std.specs.Option.{option_map}
 use Rattle.std.specs.List.{AllByRecursion, list_any, concat}
-use Rattle.std.specs.Io.KnownBytes.{Appends, Keeps, Consumes, IsAtEnd}
-use Rattle.std.proofs.KnownBytes.{Appends-trans, Appends-kept}
+use Rattle.std.specs.Io.KnownBytes.{Appends, Consumes}
+use Rattle.std.proofs.KnownBytes.{Appends-trans}
 use Rattle.core_types.specs.Keys.{Keys, no_keys}
 use Rattle.resp_codec.specs.Spelling.{Spells, SkipsAll}
 use Rattle.resp_codec.specs.Stream.{Stream, Passes}
@@ -14,7 +14,7 @@ use Rattle.disk_model.specs.declared.file_name.FileName.TheVariants.{Log}
 use Rattle.disk_model.specs.Files.{Files, with_file, with_appended, Become}
 use Rattle.modhost.specs.Does.{does}
 use Rattle.modhost.specs.Run.{keys_after, replies, units, quits}
-use Rattle.modhost.specs.Pipe.{Outside, NoneQuits, HasTaken, BeginsWith, Serves, ServesAll, LastQuits}
+use Rattle.modhost.specs.Pipe.{HasTaken, BeginsWith, Serves, ServesAll}
 use Rattle.modhost.specs.Serving.{Progress}
 use Rattle.modhost.specs.Ending.{outside}
 use Rattle.modhost.proofs.Lists.{keys_after_push, replies_push, units_push, quits_push}

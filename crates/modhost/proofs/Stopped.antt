@@ -1,6 +1,6 @@
 -- Why serving stops, and what was served by then.
-use Rattle.std.proofs.Common.{◌≡◌, ◌⊎◌, ℕ, ◌+◌, ◌^◌, ◌≤◌, ◌<◌, List, [], ◌∷◌, ◌++◌, length, take, Option, Some, refl, sym, ap, subst, ◌∙◌, append_assoc, length-append, inl, inr, arith}
-use Rattle.std.specs.Io.KnownBytes.{Appends, Keeps, Consumes}
+use Rattle.std.proofs.Common.{◌≡◌, ℕ, ◌+◌, ◌^◌, ◌≤◌, ◌<◌, List, ◌++◌, length, take, Option, refl, sym, ap, subst, ◌∙◌, inl, inr, arith}
+use Rattle.std.specs.Io.KnownBytes.{Appends, Keeps}
 use Rattle.std.proofs.KnownBytes.{Appends-trans, Appends-kept, Keeps-refl, Consumes-kept, Consumes-trans}
 use Rattle.core_types.specs.Keys.{Keys, no_keys}
 use Rattle.core_types.specs.Causes.{Rose}
@@ -18,7 +18,7 @@ use Rattle.modhost.specs.declared.status.Status.{Status}
 use Rattle.modhost.specs.declared.status.Status.TheVariants as status
 use Rattle.modhost.specs.Does.{does}
 use Rattle.modhost.specs.Run.{keys_after, replies, units}
-use Rattle.modhost.specs.Pipe.{Outside, Serves, ServesSome, LogsPart, SendsPart, SendsPartOfError, Refuses, StopsReading, StopsAtLimit}
+use Rattle.modhost.specs.Pipe.{ServesSome}
 use Rattle.modhost.specs.Serving.{Progress, ServeStops, RefuseEnds, TakeStops, SourceStops}
 use Rattle.modhost.specs.Ending.{outside}
 use Rattle.modhost.proofs.StreamPieces.{asks}
@@ -60,6 +60,7 @@ stops_serving status.DirFault store stream stream' bytes spelling words input le
         request = refl;
         sent = Appends-kept sent0 sent sent' _ p.serves.sent stop.1;
         logged = (log.0, subst (λ (u : List ℕ). Become (with_file Log u) files0 files') (same log.0) (logged_more _ _ files0 files files' p.serves.logged log.1));
+        some = subst (λ (k : Keys). 0 < length (unit (does k words).effects)) p.keys stop.0.2;
       },
     )
 stops_serving status.WriteFault store stream stream' bytes spelling words input left sent0 sent sent' files0 files files' dir0 dir dir' source source' sink0 sink sink' p spells passes dir_later sink_later stop =

@@ -4,7 +4,7 @@ use Rattle.std.specs.List.{AllByRecursion, concat}
 use Rattle.std.proofs.lemmas.List.{append-nil}
 use Rattle.std.proofs.lemmas.List.Concat.{flat_map-append}
 use Rattle.std.specs.Option.{option_to_list}
-use Rattle.resp_codec.specs.Spelling.{Spells, Skips, SkipsAll}
+use Rattle.resp_codec.specs.Spelling.{SkipsAll}
 use Rattle.resp_codec.specs.Requests.{Piece, IsPiece, bytes_of, requests_of}
 
 -- bytes that ask for nothing

@@ -1,5 +1,5 @@
 -- A step of reading: what asks for nothing is passed, and then a request comes, or a bad place, or nothing yet.
-use Rattle.std.proofs.Common.{◌≡◌, ℕ, ◌+◌, ◌≤◌, ◌<◌, List, [], ◌∷◌, ◌++◌, length, Option, refl, sym, ap, ◌∙◌, append_assoc, length-append, inl, inr, ◌⊎◌, arith}
+use Rattle.std.proofs.Common.{ℕ, ◌+◌, ◌≤◌, ◌<◌, List, [], ◌∷◌, ◌++◌, length, Option, refl, ap, ◌∙◌, append_assoc, length-append, inl, inr, arith}
 use Rattle.std.specs.List.{concat}
 use Rattle.core_types.specs.Keys.{Keys}
 use Rattle.core_types.specs.declared.bad_request.BadRequest.{BadRequest}

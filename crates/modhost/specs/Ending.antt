@@ -3,7 +3,7 @@ use Rattle.std.specs.Prelude.{◌≡◌, ◌⊎◌, ℕ, List, Option}
 use Rattle.core_types.specs.Causes.{Rose}
 use Rattle.disk_model.specs.Files.{Files}
 use Rattle.modhost.specs.declared.status.Status.{Status}
-use Rattle.modhost.specs.declared.status.Status.TheVariants.{Done, Usage, DirFault, ReadFault, WriteFault, Memory, Protocol, CutOff, TooLong, NotBuilt}
+use Rattle.modhost.specs.declared.status.Status.TheVariants.{Done, DirFault, ReadFault, WriteFault, Memory, Protocol, CutOff, TooLong, NotBuilt}
 use Rattle.modhost.specs.Serving.{SourceStops}
 use Rattle.modhost.specs.Pipe.{Outside, IsFresh, IsTaken, IsUntouched, ServesSome, ServesAll, CutsOff, Refuses, SendsPart, SendsPartOfError, LogsPart, OpensNot, StopsReading, StopsAtLimit}
 

@@ -127,7 +127,7 @@ pub record ServesSome (o : Outside) : Type 0 where
   pub serves : Serves o pieces
   pub going : NoneQuits pieces
 
--- Some were, and of the next one's unit a front is in the log.
+-- Some were, and of the unit of the next one, which changes something, a front is in the log.
 pub record LogsPart (o : Outside) : Type 0 where
   pub pieces : List Piece
   pub next : Piece
@@ -138,6 +138,7 @@ pub record LogsPart (o : Outside) : Type 0 where
   pub sent : Appends o.sent_before o.sent (replies (requests_of pieces) no_keys)
   pub logged : (count : ℕ) × Become (with_file Log (units (requests_of pieces) no_keys
       ++ take count (unit (does (keys_after (requests_of pieces) no_keys) words).effects))) o.files_before o.files
+  pub some : 0 < length (unit (does (keys_after (requests_of pieces) no_keys) words).effects)
 
 -- Some were, and the last was logged, but of its reply only a front was sent.
 pub record SendsPart (o : Outside) : Type 0 where

@@ -42,6 +42,7 @@ abbrev pub LogStops : Status → Step → Change Files → Type 0
 LogStops Memory step files = Stay files.old files.new
 LogStops DirFault step files = Rose files.faults_old files.faults_new
     × ((count : ℕ) × Become (with_appended Log (take count (unit step.effects))) files.old files.new)
+    × (0 < length (unit step.effects))
 LogStops end step files = ⊥
 
 -- Why a request was not served to its end, and how that left the directory and the sink.

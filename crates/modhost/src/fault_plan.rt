@@ -38,6 +38,7 @@ impl FaultPlan {
         ensures kept { self.new.fails.items ≡ self.old.fails.items }
         ensures later { self.old.faults ≤ self.new.faults }
         ensures fails { OnTrue result (Rose self.old.faults self.new.faults) }
+        ensures one { OnTrue result (self.new.faults ≡ min (self.old.faults + 1) (2 ^ 64 - 1)) }
         ensures goes_on { OnFalse result (self.new.faults ≡ self.old.faults) }
     {
         self.calls = self.calls.saturating_add(1);
@@ -52,6 +53,9 @@ impl FaultPlan {
     pub fn count_fault(&mut self)
         ensures later { self.old.faults ≤ self.new.faults }
         ensures counted { Rose self.old.faults self.new.faults }
+        ensures one { self.new.faults ≡ min (self.old.faults + 1) (2 ^ 64 - 1) }
+        ensures kept { self.new.fails.items ≡ self.old.fails.items }
+        ensures calls { self.new.calls ≡ self.old.calls }
     {
         self.faults = self.faults.saturating_add(1);
     }

@@ -1,6 +1,6 @@
 //! The keys of a directory, and the log that keeps them.
 
-ghost use Rattle.std.specs.Prelude.{ℕ, ◌≡◌, ◌≤◌, ◌++◌, [], take, is_some, IfSome, IfOk, IfErr, OnOk, OnErr};
+ghost use Rattle.std.specs.Prelude.{ℕ, ◌≡◌, ◌≤◌, ◌<◌, ◌++◌, [], length, take, is_some, IfSome, IfOk, IfErr, OnOk, OnErr};
 ghost use Rattle.core_types.specs.Causes.{HasCause};
 ghost use Rattle.core_types.specs.Keys.{no_keys};
 ghost use Rattle.resp_codec.specs.Spelling.{IsRequest};
@@ -60,6 +60,7 @@ fn append_synced<D: Dir>(dir: &mut D, bytes: &[u8]) -> Result<(), DirFault>
     ensures ok { OnOk result (Become (with_appended FileName.Log bytes.now) (D.files dir.old) (D.files dir.new)) }
     ensures err { OnErr result ((count : ℕ) ×
         Become (with_appended FileName.Log (take count bytes.now)) (D.files dir.old) (D.files dir.new)) }
+    ensures some { OnErr result (0 < length bytes.now) }
     ensures cause { HasCause (D.faults dir.old) (D.faults dir.new) result }
 {
     if bytes.is_empty() {

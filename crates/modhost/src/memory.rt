@@ -1,6 +1,10 @@
 //! A source and a sink in memory, which tell their content and fail at the calls they are told to.
 
-ghost use Rattle.std.specs.Prelude.{◌≡◌, ◌≤◌, [], Some, min, length, take, drop, IfOk};
+ghost use Rattle.std.specs.Prelude.{◌≡◌, ◌<◌, ◌≤◌, ◌+◌, ◌-◌, ◌^◌, ◌==◌, ◌↔◌, [], Some, true, min, length, take, drop, IfOk, IsErr};
+ghost use Rattle.std.specs.List.{list_any};
+ghost use Rattle.std.specs.Io.{ReadsAtMost};
+ghost use Rattle.std.specs.Io.KnownBytes.{ReadConsumes, WriteAppends};
+ghost use Rattle.core_types.specs.Causes.{HasCause};
 
 use crate::fault_plan::FaultPlan;
 use crate::sink::{Sink, SinkFault};
@@ -24,6 +28,9 @@ impl MemorySource {
     pub fn new(alloc: Global, bytes: &[u8], fails: &[u64]) -> Result<MemorySource, NoMemory>
         ensures bytes { IfOk result (λ source. source.bytes ≡ bytes.now) }
         ensures untaken { IfOk result (λ source. source.taken ≡ 0) }
+        ensures fails { IfOk result (λ source. source.plan.fails.items ≡ fails.now) }
+        ensures calls { IfOk result (λ source. source.plan.calls ≡ 0) }
+        ensures faults { IfOk result (λ source. source.plan.faults ≡ 0) }
     {
         Ok(MemorySource {
             bytes: Blob::from_slice(alloc, bytes)?,
@@ -38,7 +45,16 @@ impl Source for MemorySource {
 
     ghost faults = { λ s. s.plan.faults };
 
-    fn take(&mut self, into: &mut [u8]) -> Result<usize, SourceFault> {
+    fn take(&mut self, into: &mut [u8]) -> Result<usize, SourceFault>
+        requires { 0 < length into.old }
+        ensures bound { ReadsAtMost result into.new }
+        ensures bytes { ReadConsumes (Some (drop self.old.taken self.old.bytes)) (Some (drop self.new.taken self.new.bytes)) result into.new }
+        ensures cause { HasCause self.old.plan.faults self.new.plan.faults result }
+        ensures fails { IsErr result
+            ↔ (list_any (λ call. call == min (self.old.plan.calls + 1) (2 ^ 64 - 1)) self.old.plan.fails.items ≡ true) }
+        ensures calls { self.new.plan.calls ≡ min (self.old.plan.calls + 1) (2 ^ 64 - 1) }
+        ensures kept { self.new.plan.fails.items ≡ self.old.plan.fails.items }
+    {
         if self.plan.strikes() {
             return Err(SourceFault);
         }
@@ -61,6 +77,9 @@ impl MemorySink {
     /// An empty sink, which fails at the calls of these numbers, counted from 1.
     pub fn new(alloc: Global, fails: &[u64]) -> Result<MemorySink, NoMemory>
         ensures empty { IfOk result (λ sink. sink.bytes ≡ []) }
+        ensures fails { IfOk result (λ sink. sink.plan.fails.items ≡ fails.now) }
+        ensures calls { IfOk result (λ sink. sink.plan.calls ≡ 0) }
+        ensures faults { IfOk result (λ sink. sink.plan.faults ≡ 0) }
     {
         Ok(MemorySink {
             bytes: Blob::new(alloc),
@@ -81,7 +100,17 @@ impl Sink for MemorySink {
 
     ghost faults = { λ s. s.plan.faults };
 
-    fn put(&mut self, piece: &[u8]) -> Result<usize, SinkFault> {
+    fn put(&mut self, piece: &[u8]) -> Result<usize, SinkFault>
+        requires { 0 < length piece.now }
+        ensures some { IfOk result (λ count. 0 < count) }
+        ensures bound { IfOk result (λ count. count ≤ length piece.now) }
+        ensures bytes { WriteAppends (Some self.old.bytes) (Some self.new.bytes) result piece.now }
+        ensures cause { HasCause self.old.plan.faults self.new.plan.faults result }
+        ensures fails { list_any (λ call. call == min (self.old.plan.calls + 1) (2 ^ 64 - 1)) self.old.plan.fails.items ≡ true
+            → IsErr result }
+        ensures calls { self.new.plan.calls ≡ min (self.old.plan.calls + 1) (2 ^ 64 - 1) }
+        ensures kept { self.new.plan.fails.items ≡ self.old.plan.fails.items }
+    {
         if self.plan.strikes() {
             return Err(SinkFault);
         }

@@ -39,6 +39,7 @@ impl<W: Write + Drop> RealSink<W> {
     /// The writer, with no fault so far.
     pub fn new(writer: W) -> RealSink<W>
         ensures none { result.faults ≡ 0 }
+        ensures wraps { result.writer ≡ writer }
     {
         RealSink { writer, faults: 0 }
     }

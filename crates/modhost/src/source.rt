@@ -27,7 +27,7 @@ pub trait Source {
         ensures cause { HasCause (faults self.old) (faults self.new) result };
 }
 
-/// Any reader as a source. It tells nothing of what is left.
+/// Any reader as a source. It tells what is left where the reader does; standard input does not.
 #[derive(Drop)]
 pub struct RealSource<R: Read + Drop> {
     reader: R,
@@ -39,6 +39,7 @@ impl<R: Read + Drop> RealSource<R> {
     /// The reader, with no fault so far.
     pub fn new(reader: R) -> RealSource<R>
         ensures none { result.faults ≡ 0 }
+        ensures wraps { result.reader ≡ reader }
     {
         RealSource { reader, faults: 0 }
     }

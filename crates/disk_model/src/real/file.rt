@@ -1,6 +1,6 @@
 //! One file of the folder: its handle, and whether its bytes are on the disk.
 
-ghost use Rattle.std.specs.Prelude.{◌≡◌, IsErr, OnOk, OnErr};
+ghost use Rattle.std.specs.Prelude.{◌≡◌, ◌⊎◌, IsOk, IsErr, OnOk, OnErr};
 ghost use Rattle.disk_model.specs.Synced.{after_change};
 
 use super::folder::RealFolder;
@@ -76,22 +76,29 @@ impl<R: Files> RealFile<R> {
         done
     }
 
-    /// Makes the bytes safe from a crash, with no system call where they are known to be.
+    /// Makes the bytes safe from a crash, with no system call where they are known to be. An `Err` that
+    /// leaves the state as it was comes from opening the file.
     pub(crate) fn sync(&mut self, rt: &R) -> io::Result<()>
         ensures ok { OnOk result (self.new.bytes ≡ Synced.Yes) }
+        ensures synced { self.old.bytes ≡ Synced.Yes → IsOk result }
         ensures failed { self.old.bytes ≡ Synced.Failed → IsErr result }
+        ensures err { OnErr result ((self.new.bytes ≡ self.old.bytes) ⊎ (self.new.bytes ≡ Synced.Failed)) }
     {
         match self.bytes {
             Synced::Yes => Ok(()),
-            Synced::No => self.sync_data(rt),
+            Synced::No => {
+                let file = self.take_handle(rt)?;
+                self.sync_data(file)
+            }
             Synced::Failed => Err(io::Error::from(ErrorKind::Other)),
         }
     }
 
-    fn sync_data(&mut self, rt: &R) -> io::Result<()>
+    // Asks the system to sync, and keeps the handle. A failure is never forgotten.
+    fn sync_data(&mut self, file: R::File) -> io::Result<()>
         ensures ok { OnOk result (self.new.bytes ≡ Synced.Yes) }
+        ensures err { OnErr result (self.new.bytes ≡ Synced.Failed) }
     {
-        let file = self.take_handle(rt)?;
         let done = file.sync_data();
         self.bytes = Synced::after_sync(&done);
         self.handle = Some(file);

@@ -1,6 +1,6 @@
 //! The folder itself: whether it can be read, and whether its names are on the disk.
 
-ghost use Rattle.std.specs.Prelude.{◌≡◌, IsErr, OnOk};
+ghost use Rattle.std.specs.Prelude.{◌≡◌, ◌⊎◌, IsOk, IsErr, OnOk, OnErr};
 ghost use Rattle.disk_model.specs.Synced.{after_change};
 
 use super::synced::Synced;
@@ -44,22 +44,30 @@ impl RealFolder {
         self.names = self.names.after_change();
     }
 
-    /// Makes the names safe from a crash, with no system call where they are known to be.
+    /// Makes the names safe from a crash, with no system call where they are known to be. An `Err` that
+    /// leaves the state as it was comes from opening the folder.
     pub(crate) fn sync_names<R: Files>(&mut self, rt: &R) -> io::Result<()>
         ensures ok { OnOk result (self.new.names ≡ Synced.Yes) }
+        ensures synced { self.old.names ≡ Synced.Yes → IsOk result }
         ensures failed { self.old.names ≡ Synced.Failed → IsErr result }
+        ensures err { OnErr result ((self.new.names ≡ self.old.names) ⊎ (self.new.names ≡ Synced.Failed)) }
     {
         match self.names {
             Synced::Yes => Ok(()),
-            Synced::No => self.sync_all(rt),
+            Synced::No => {
+                let folder = self.open(rt)?;
+                self.sync_all::<R>(folder)
+            }
             Synced::Failed => Err(io::Error::from(ErrorKind::Other)),
         }
     }
 
-    fn sync_all<R: Files>(&mut self, rt: &R) -> io::Result<()>
+    // Asks the system to sync. A failure is never forgotten.
+    fn sync_all<R: Files>(&mut self, folder: R::File) -> io::Result<()>
         ensures ok { OnOk result (self.new.names ≡ Synced.Yes) }
+        ensures err { OnErr result (self.new.names ≡ Synced.Failed) }
     {
-        let done = self.open(rt)?.sync_all();
+        let done = folder.sync_all();
         self.names = Synced::after_sync(&done);
         done
     }

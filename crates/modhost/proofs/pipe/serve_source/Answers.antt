@@ -1,11 +1,11 @@
-use Rattle.std.proofs.Common.{◌≡◌, ◌<◌, [], ℕ, Ok, take, ◌++◌, length, refl, sym, ap, subst, ◌∙◌, arith}
+use Rattle.std.proofs.Common.{◌≡◌, ◌<◌, [], ℕ, Ok, take, length, refl, sym, ap, subst, ◌∙◌, arith}
 use Rattle.std.specs.Io.KnownBytes.{Consumes}
 use Rattle.std.proofs.KnownBytes.{Keeps-refl}
 use Rattle.std.proofs.lemmas.List.{length-take-le}
 use Rattle.std.proofs.lemmas.Result.{err_from_is_err_and, on_ok_weaker, IfErr-weaker}
 use Rattle.modhost.proofs.Fed.{starts, fed_more}
 use Rattle.modhost.proofs.Served.{Serving, quits_now, goes_on}
-use Rattle.modhost.proofs.Taken.{behind, comes, shorter, waits_on, no_longer, refused_at}
+use Rattle.modhost.proofs.Taken.{behind, comes, shorter, waits_on, refused_at}
 use Rattle.modhost.proofs.Stopped.{serves_some, stops_serving, stops_refusing, stops_taking}
 use Rattle.modhost.proofs.Ended.{ends_all, stops_within}
 use Rattle.modhost.proofs.pipe.serve_source.Goals as goal

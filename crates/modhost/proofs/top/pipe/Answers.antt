@@ -1,5 +1,4 @@
-use Rattle.std.proofs.Common.{◌≤◌, ap, subst, sym, ◌∙◌, arith}
-use Rattle.disk_model.specs.declared.file_name.FileName.TheVariants.{Log}
+use Rattle.std.proofs.Common.{ap, ◌∙◌, arith}
 use Rattle.modhost.proofs.Opened.{pipe_ends}
 use Rattle.modhost.proofs.top.pipe.Goals as goal
 
