@@ -1,1 +1,10 @@
 pub mod UnitTexts
+pub mod OpenedUnits
+pub mod Entries
+pub mod Judging
+pub mod OneLog
+pub mod ReadBack
+pub mod Replays
+pub mod GoesOn
+pub mod Stops
+pub mod OneReplay

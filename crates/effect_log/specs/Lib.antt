@@ -1,1 +1,7 @@
 pub mod Unit
+pub mod Log
+pub mod Reading
+pub mod Written
+pub mod Entry
+pub mod Front
+pub mod Replay

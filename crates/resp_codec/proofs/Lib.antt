@@ -7,5 +7,8 @@ pub mod InlineWords
 pub mod ReaderHeaders
 pub mod ReaderNumbers
 pub mod ReaderSteps
+pub mod Words
+pub mod Arrays
+pub mod Fronts
 pub mod Passing
 pub mod WritingDigits

@@ -1,10 +1,10 @@
 -- What the part that is due says of the stream.
-use Rattle.std.proofs.Common.{◌≡◌, ◌≢◌, ℕ, zero, suc, ◌+◌, ◌<◌, ◌≤◌, false, List, [], ◌∷◌, ◌++◌, length, take, drop, get_or, slice_get, Some, None, refl, sym, ap, subst, ◌∙◌, append_assoc, arith, inl, inr}
-use Rattle.std.specs.Fmt.{decimal, signed_decimal}
+use Rattle.std.proofs.Common.{◌≡◌, ◌≢◌, ℕ, zero, suc, ◌+◌, ◌-◌, ◌<◌, ◌≤◌, false, List, [], ◌∷◌, ◌++◌, length, take, drop, get_or, slice_get, Some, None, refl, sym, ap, subst, ◌∙◌, append_assoc, arith, inl, inr}
+use Rattle.std.specs.Fmt.{decimal}
 use Rattle.std.specs.List.{flat_map, AllByRecursion, list_any}
 use Rattle.std.proofs.lemmas.List.{length-append, length-take, length-take-le, length-drop, length_push, flat_map_more, drop_all, drop_more}
 use Rattle.resp_codec.specs.Inline.{begins_array, IsLine, is_quote, line_words}
-use Rattle.resp_codec.specs.Spelling.{crlf, bulk, multibulk, IsWord, IsRequest, IsInline}
+use Rattle.resp_codec.specs.Spelling.{crlf, bulk, multibulk, IsWord, IsRequest, IsInline, IsEmptyArray}
 use Rattle.resp_codec.specs.Faults.{IsBegun, HeaderDue, BadLength, BadMark, BadWordEnd, LongLine, QuotedLine, IsNoLength, IsHeaderText}
 use Rattle.resp_codec.specs.Stream.{IsUnfinished, SkipsOnly, Takes}
 use Rattle.resp_codec.specs.Number.{IsNoneOrFewer}
@@ -27,26 +27,40 @@ some_injective : (a b : ℕ) → Some a ≡ Some b → a ≡ b
 some_injective a b e = cc
 
 -- a header's text is its mark and what a number is read from
-mark_text : (mark end : ℕ) (input : List ℕ) → slice_get input 0 ≡ Some mark → mark ≢ 13 → IsHeaderLine input end → take end input ≡ mark ∷ drop 1 (take end input)
+pub mark_text : (mark end : ℕ) (input : List ℕ) → slice_get input 0 ≡ Some mark → mark ≢ 13 → IsHeaderLine input end → take end input ≡ mark ∷ drop 1 (take end input)
 mark_text mark end [] first other line = absurd (some_none mark (sym first))
 mark_text mark zero (byte ∷ input) first other line =
     let same : byte ≡ mark = some_injective byte mark first in
     absurd (other (sym same ∙ ap (λ (bytes : List ℕ). get_or bytes 0 0) line.parts))
 mark_text mark (suc end) (byte ∷ input) first other line = ap (λ (b : ℕ). b ∷ take end input) (some_injective byte mark first)
 
-header_parts : (mark end : ℕ) (input : List ℕ) → slice_get input 0 ≡ Some mark → mark ≢ 13 → IsHeaderLine input end → input ≡ mark ∷ drop 1 (take end input) ++ crlf ++ drop (end + 2) input
+-- the same text, cut out of the line
+pub number_text : (mark end : ℕ) (input : List ℕ) → slice_get input 0 ≡ Some mark → mark ≢ 13 → IsHeaderLine input end → drop 1 (take end input) ≡ take (end - 1) (drop 1 input)
+number_text mark end [] first other line = absurd (some_none mark (sym first))
+number_text mark zero (byte ∷ input) first other line = refl
+number_text mark (suc end) (byte ∷ input) first other line =
+    let same : end ≡ suc end - 1 = omega arith in
+    ap (λ (k : ℕ). take k input) same
+
+pub header_parts : (mark end : ℕ) (input : List ℕ) → slice_get input 0 ≡ Some mark → mark ≢ 13 → IsHeaderLine input end → input ≡ mark ∷ drop 1 (take end input) ++ crlf ++ drop (end + 2) input
 header_parts mark end input first other line =
     line.parts ∙ ap (λ (text : List ℕ). text ++ crlf ++ drop (end + 2) input) (mark_text mark end input first other line)
 
--- an array of no words is skipped
+-- an array of no words
+pub empty_array : (end : ℕ) (input : List ℕ) → slice_get input 0 ≡ Some 42 → IsHeaderLine input end → IsNoneOrFewer (drop 1 (take end input)) → IsEmptyArray (take end input ++ crlf)
+empty_array end input first line none = record {
+  count = none.count;
+  none = none.none;
+  fits = none.fits;
+  whole = ap (λ (text : List ℕ). text ++ crlf) (mark_text 42 end input first (λ e. omega arith) line ∙ ap (λ (digits : List ℕ). 42 ∷ digits) none.text_is);
+}
+
+-- and is skipped
 pub skips_count : (passed end : ℕ) (input : List ℕ) → slice_get input 0 ≡ Some 42 → IsHeaderLine input end → IsNoneOrFewer (drop 1 (take end input)) → SkipsOnly (stream passed input) (stream (passed + (end + 2)) (drop (end + 2) input))
 skips_count passed end input first line none =
     let front = take end input ++ crlf in
-    let rest = drop (end + 2) input in
     let size : length front ≡ end + 2 = omega (arith, length-append (take end input) crlf, length-take-le end input (omega (arith, line.within))) in
-    let whole : front ≡ 42 ∷ signed_decimal none.count ++ crlf =
-    ap (λ (text : List ℕ). text ++ crlf) (mark_text 42 end input first (λ e. omega arith) line ∙ ap (λ (digits : List ℕ). 42 ∷ digits) none.text_is) in
-    SkipsOnly-one passed (passed + (end + 2)) input front rest line.parts (omega arith) (inl record { count = none.count; none = none.none; fits = none.fits; whole = whole })
+    SkipsOnly-one passed (passed + (end + 2)) input front (drop (end + 2) input) line.parts (omega arith) (inl (empty_array end input first line none))
 
 pub bad_length : (before input : List ℕ) (end at : ℕ) → IsBegun before → slice_get input 0 ≡ Some 36 → IsHeaderLine input end → IsNoLength (drop 1 (take end input)) → at ≡ length before → BadLength (before ++ input) at
 bad_length before input end at begun first line no_length place =
@@ -96,11 +110,10 @@ open_piece input len size (inr (last, return)) =
     let rest : drop len input ≡ 13 ∷ [] = drop_more input len 0 (omega arith) ∙ ap (λ (more : List ℕ). get_or input len 0 ∷ more) (drop_all (len + 1) input (omega arith)) ∙ ap (λ (b : ℕ). b ∷ []) return in
     rw rest refl
 
-pub unfinished_word : (count len : ℕ) (done : List (List ℕ)) (input : List ℕ) → HasMore count done → len ≤ 536870912 → IsFound input len found.Open → IsUnfinished (word_front count done len ++ input)
-unfinished_word count len done input more small open_end =
-    let before = header 42 count ++ flat_map bulk done in
-    IsUnfinished-from_short (word_front count done len ++ input) (ap judge (append_assoc before (header 36 len) input)
-    ∙ judge-open before (header 36 len ++ input) (IsBegun-words count done more) (piece-length len input small ∙ open_piece input len (length (header 36 len) + len) open_end))
+pub unfinished_word : (before input : List ℕ) (len : ℕ) → IsBegun before → len ≤ 536870912 → IsFound input len found.Open → IsUnfinished (before ++ header 36 len ++ input)
+unfinished_word before input len begun small open_end =
+    IsUnfinished-from_short (before ++ header 36 len ++ input) (ap judge (append_assoc before (header 36 len) input)
+    ∙ judge-open before (header 36 len ++ input) begun (piece-length len input small ∙ open_piece input len (length (header 36 len) + len) open_end))
 
 word_stream : (before word rest : List ℕ) → before ++ header 36 (length word) ++ (word ++ rest) ≡ before ++ 36 ∷ decimal (length word) ++ crlf ++ word ++ rest
 word_stream before word rest =
@@ -139,25 +152,23 @@ at_input before input rest len place within parts bad =
     let here = subst (λ (t : List ℕ). BadWordEnd (before ++ header 36 (length (take len input)) ++ t) (length (before ++ header 36 (length (take len input))) + place)) (sym parts) bad in
     subst (λ (k : ℕ). BadWordEnd (before ++ header 36 k ++ input) (length (before ++ header 36 k) + place)) (length-take-le len input within) here
 
-pub bad_word_end : (count len place : ℕ) (done : List (List ℕ)) (input : List ℕ) → HasMore count done → len ≤ 536870912 → IsFound input len (found.Missing place) → BadWordEnd (word_front count done len ++ input) (length (word_front count done len) + place)
-bad_word_end count len place done input more small (inl (same, less, other)) =
-    let before = header 42 count ++ flat_map bulk done in
+pub bad_word_end : (before input : List ℕ) (len place : ℕ) → IsBegun before → len ≤ 536870912 → IsFound input len (found.Missing place) → BadWordEnd (before ++ header 36 len ++ input) (length (before ++ header 36 len) + place)
+bad_word_end before input len place begun small (inl (same, less, other)) =
     let word = take len input in
     let size : length word ≡ len = length-take-le len input (omega arith) in
     let byte = get_or input len 0 in
     let other_byte : byte ≢ 13 = λ e. other (ap (λ (k : ℕ). get_or input k 0) same ∙ e) in
     let place_is : place ≡ length word = omega arith in
     at_input before input (byte ∷ drop (len + 1) input) len place (omega arith) (one_at input len byte (omega arith) refl)
-    (rw place_is (no_return before word (drop (len + 1) input) byte (IsBegun-words count done more) (omega arith) other_byte))
-bad_word_end count len place done input more small (inr (next, less, return, other)) =
-    let before = header 42 count ++ flat_map bulk done in
+    (rw place_is (no_return before word (drop (len + 1) input) byte begun (omega arith) other_byte))
+bad_word_end before input len place begun small (inr (next, less, return, other)) =
     let word = take len input in
     let size : length word ≡ len = length-take-le len input (omega arith) in
     let byte = get_or input (len + 1) 0 in
     let other_byte : byte ≢ 10 = λ e. other (ap (λ (k : ℕ). get_or input k 0) next ∙ e) in
     let place_is : place ≡ length word + 1 = omega arith in
     at_input before input (13 ∷ byte ∷ drop (len + 2) input) len place (omega arith) (two_at input len 13 byte (omega arith) return refl)
-    (rw place_is (no_feed before word (drop (len + 2) input) byte (IsBegun-words count done more) (omega arith) other_byte))
+    (rw place_is (no_feed before word (drop (len + 2) input) byte begun (omega arith) other_byte))
 
 pub long_line : (input : List ℕ) (at : ℕ) → begins_array input ≡ false → IsSearchEnd 10 65537 input → at ≡ 0 → LongLine input at
 long_line input at no_array searched place = record { no_array = no_array; long = searched.searched.within; unbroken = searched.searched.none; place = place }
@@ -201,22 +212,25 @@ bad_quote input end place at line found same =
 line_there : (input : List ℕ) (len : ℕ) → IsFound input len found.There → input ≡ take len input ++ crlf ++ drop (len + 2) input
 line_there input len there = two_at input len 13 10 there.0 there.1 there.2 ∙ sym (append_assoc (take len input) crlf (drop (len + 2) input))
 
-push_word : (count : ℕ) (done : List (List ℕ)) (w more : List ℕ) → header 42 count ++ flat_map bulk done ++ header 36 (length w) ++ (w ++ crlf ++ more) ≡ header 42 count ++ flat_map bulk (done ++ w ∷ []) ++ more
-push_word count done w more =
-    let front = header 42 count ++ flat_map bulk done in
-    append_assoc front (header 36 (length w)) (w ++ crlf ++ more) ∙ ap (λ (t : List ℕ). front ++ t) (sym (append_assoc (header 36 (length w)) (w ++ crlf) more)) ∙ sym (append_assoc front (bulk w) more)
-    ∙ ap (λ (t : List ℕ). t ++ more) (flat_map_more bulk (header 42 count) done w)
+-- the header of a word, its bytes and CR LF are its bulk string
+pub word_whole : (input : List ℕ) (len : ℕ) → IsFound input len found.There → header 36 len ++ input ≡ bulk (take len input) ++ drop (len + 2) input
+word_whole input len there =
+    let word = take len input in
+    let long : length word ≡ len = length-take-le len input (omega (arith, there.0)) in
+    ap (λ (k : ℕ). header 36 k ++ input) (sym long) ∙ ap (λ (t : List ℕ). header 36 (length word) ++ t) (line_there input len there) ∙ sym (append_assoc (header 36 (length word)) (word ++ crlf) (drop (len + 2) input))
 
 -- a whole word goes from what was not read to what was
+pub bulk-push : (count : ℕ) (done : List (List ℕ)) (word more : List ℕ) → header 42 count ++ flat_map bulk done ++ (bulk word ++ more) ≡ header 42 count ++ flat_map bulk (done ++ word ∷ []) ++ more
+bulk-push count done word more =
+    sym (append_assoc (header 42 count ++ flat_map bulk done) (bulk word) more) ∙ ap (λ (t : List ℕ). t ++ more) (flat_map_more bulk (header 42 count) done word)
+
 pub begun-push : (count len : ℕ) (done : List (List ℕ)) (input : List ℕ) → IsFound input len found.There →
     word_front count done len ++ input ≡ header 42 count ++ flat_map bulk (done ++ take len input ∷ []) ++ drop (len + 2) input
 begun-push count len done input there =
     let front = header 42 count ++ flat_map bulk done in
-    let long : length (take len input) ≡ len = length-take-le len input (omega (arith, there.0)) in
-    ap (λ (k : ℕ). front ++ header 36 k ++ input) (sym long) ∙ ap (λ (t : List ℕ). front ++ header 36 (length (take len input)) ++ t) (line_there input len there)
-    ∙ push_word count done (take len input) (drop (len + 2) input)
+    append_assoc front (header 36 len) input ∙ ap (λ (t : List ℕ). front ++ t) (word_whole input len there) ∙ bulk-push count done (take len input) (drop (len + 2) input)
 
-AllByRecursion-push : (done : List (List ℕ)) (w : List ℕ) → AllByRecursion IsWord done → IsWord w → AllByRecursion IsWord (done ++ w ∷ [])
+pub AllByRecursion-push : (done : List (List ℕ)) (w : List ℕ) → AllByRecursion IsWord done → IsWord w → AllByRecursion IsWord (done ++ w ∷ [])
 AllByRecursion-push [] w each small = (small, tt)
 AllByRecursion-push (x ∷ done) w each small = (each.0, AllByRecursion-push done w each.1 small)
 

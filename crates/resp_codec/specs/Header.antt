@@ -1,5 +1,5 @@
 -- The header of a request or of a word: a mark, a number, and the end of the line.
-use Rattle.std.specs.Prelude.{◌≡◌, ℕ, ◌+◌, ◌≤◌, List, ◌∷◌, ◌++◌, length, take, drop}
+use Rattle.std.specs.Prelude.{◌≡◌, ℕ, ◌+◌, ◌<◌, ◌≤◌, List, ◌∷◌, ◌++◌, length, take, drop}
 use Rattle.std.specs.Fmt.{decimal}
 use Rattle.resp_codec.specs.Spelling.{crlf}
 use Rattle.resp_codec.specs.Faults.{HeaderDue, IsHeaderText, BadAt}
@@ -20,4 +20,4 @@ pub record IsHeaderLine (bytes : List ℕ) (end : ℕ) : Type 0 where
 abbrev pub Judges : List ℕ → Header → Type 0
 Judges bytes answer.Open = (before : List ℕ) → HeaderDue before bytes → IsUnfinished (before ++ bytes)
 Judges bytes (answer.Line end) = IsHeaderLine bytes end
-Judges bytes (answer.Bad kind place) = (place ≤ length bytes) × ((before : List ℕ) → HeaderDue before bytes → BadAt (before ++ bytes) kind (length before + place))
+Judges bytes (answer.Bad kind place) = (place < length bytes) × ((before : List ℕ) → HeaderDue before bytes → BadAt (before ++ bytes) kind (length before + place))

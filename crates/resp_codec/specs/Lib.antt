@@ -9,5 +9,7 @@ pub mod Run
 pub mod Number
 pub mod Line
 pub mod Header
+pub mod Word
 pub mod Underway
 pub mod Reading
+pub mod Array

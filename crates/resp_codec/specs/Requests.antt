@@ -1,5 +1,5 @@
 -- What a whole stream says: requests in order, and between them what asks for nothing.
-use Rattle.std.specs.Prelude.{ℕ, List, [], ◌∷◌, ◌++◌, Option, MatchOption}
+use Rattle.std.specs.Prelude.{ℕ, List, Option, MatchOption}
 use Rattle.std.specs.Option.{option_to_list}
 use Rattle.std.specs.List.{flat_map}
 use Rattle.resp_codec.specs.Spelling.{Spells, Skips}

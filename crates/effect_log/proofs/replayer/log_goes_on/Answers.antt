@@ -1,0 +1,9 @@
+use Rattle.effect_log.proofs.GoesOn.{Holds-kept, Holds-more, Holds-torn}
+use Rattle.effect_log.proofs.replayer.log_goes_on.Goals as goal
+
+pub returns : goal.returns
+returns c = record {
+  kept = Holds-kept;
+  more = Holds-more;
+  torn = Holds-torn;
+}

@@ -1,0 +1,72 @@
+//! The unit at the front of bytes.
+
+ghost use Rattle.std.specs.Prelude.{◌<◌, ◌+◌, ◌^◌, length, IfOk};
+ghost use Rattle.effect_log.specs.Unit.{multi};
+ghost use Rattle.effect_log.specs.Entry.{IsNamedFront};
+ghost use Rattle.effect_log.specs.Front.{IsFront};
+
+use crate::entry::{Entry, read_entry};
+use crate::reason::Reason;
+use core_types::{Effects, NoMemory, Sequence};
+use std::alloc::Global;
+
+/// What stands at the front of bytes, where a unit is due.
+#[derive(Debug, Drop)]
+pub(crate) enum Front {
+    /// A whole unit: its effects, where each of them begins in the log, and how many bytes it takes.
+    Unit(Effects, Vec<u64>, usize),
+    /// A unit that was not written to its end.
+    Torn,
+    /// A fault of form: its place, and why.
+    Bad(usize, Reason),
+}
+
+/// Reads the unit at the front of the bytes, which begin at an offset of the log.
+pub(crate) fn read_unit(alloc: Global, bytes: &[u8], offset: u64) -> Result<Front, NoMemory>
+    requires some { 0 < length bytes.now }
+    requires fits { offset + length bytes.now < 2 ^ 64 }
+    ensures { IfOk result (IsFront bytes.now offset) }
+{
+    match read_entry(alloc, bytes)? {
+        Entry::Multi(size) => read_enclosed(alloc, bytes, offset, size),
+        Entry::Exec(_) => Ok(Front::Bad(0, Reason::LoneExec)),
+        Entry::Effect(effect, size) => {
+            let mut effects = Sequence::new(alloc);
+            let mut starts = Vec::new(alloc);
+            effects.push(effect)?;
+            starts.push(offset)?;
+            Ok(Front::Unit(effects, starts, size))
+        }
+        Entry::Unfinished => Ok(Front::Torn),
+        Entry::Bad(place, why) => Ok(Front::Bad(place, why)),
+    }
+}
+
+// Reads the unit that a MULTI of so many bytes opens, up to its EXEC.
+fn read_enclosed(
+    alloc: Global,
+    bytes: &[u8],
+    offset: u64,
+    opening: usize,
+) -> Result<Front, NoMemory>
+    requires opened { IsNamedFront multi bytes.now opening }
+    requires fits { offset + length bytes.now < 2 ^ 64 }
+    ensures { IfOk result (IsFront bytes.now offset) }
+{
+    let mut effects = Sequence::new(alloc);
+    let mut starts = Vec::new(alloc);
+    let mut place = opening;
+    loop {
+        match read_entry(alloc, &bytes[place..])? {
+            Entry::Effect(effect, size) => {
+                effects.push(effect)?;
+                starts.push(offset + place as u64)?;
+                place += size;
+            }
+            Entry::Exec(size) => return Ok(Front::Unit(effects, starts, place + size)),
+            Entry::Multi(_) => return Ok(Front::Bad(place, Reason::NestedMulti)),
+            Entry::Unfinished => return Ok(Front::Torn),
+            Entry::Bad(at, why) => return Ok(Front::Bad(place + at, why)),
+        }
+    }
+}
