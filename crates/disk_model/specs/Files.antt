@@ -1,5 +1,5 @@
 -- What a directory reads as, and how a call changes it.
-use Rattle.std.specs.Prelude.{◌≡◌, ℕ, List, ◌++◌, ⊤, Option, Some, None, IsSome}
+use Rattle.std.specs.Prelude.{◌≡◌, ◌<◌, ◌≤◌, ◌^◌, ℕ, List, ◌++◌, ⊤, length, take, Option, Some, None, IsSome}
 use Rattle.std.specs.Option.{option_map}
 use Rattle.disk_model.specs.declared.file_name.FileName.{FileName}
 use Rattle.disk_model.specs.declared.file_name.FileName.TheVariants.{Log, LogTemp, Dump, DumpTemp}
@@ -36,6 +36,24 @@ with_appended LogTemp bytes files = record files { log_temp = option_map (λ old
 with_appended Dump bytes files = record files { dump = option_map (λ old. old ++ bytes) files.dump }
 with_appended DumpTemp bytes files = record files { dump_temp = option_map (λ old. old ++ bytes) files.dump_temp }
 
+-- the same files, but for one that has only its first bytes, so many
+abbrev pub with_cut : FileName → ℕ → Files → Files
+with_cut Log length files = record files { log = option_map (take length) files.log }
+with_cut LogTemp length files = record files { log_temp = option_map (take length) files.log_temp }
+with_cut Dump length files = record files { dump = option_map (take length) files.dump }
+with_cut DumpTemp length files = record files { dump_temp = option_map (take length) files.dump_temp }
+
+-- the same files, but for one, which is this or is gone
+abbrev pub put : FileName → Option (List ℕ) → Files → Files
+put Log bytes files = record files { log = bytes }
+put LogTemp bytes files = record files { log_temp = bytes }
+put Dump bytes files = record files { dump = bytes }
+put DumpTemp bytes files = record files { dump_temp = bytes }
+
+-- the same files, but for one that moved to another name. What that had is gone.
+abbrev pub with_moved : FileName → FileName → Files → Files
+with_moved from to files = put to (file from files) (put from None files)
+
 -- The files became this. A directory that tells its files goes on telling them, and one that doesn't goes on telling nothing.
 abbrev pub Become : (Files → Files) → Option Files → Option Files → Type 0
 Become change old new = new ≡ option_map change old
@@ -48,3 +66,23 @@ Stay old new = new ≡ old
 abbrev pub IsThere : FileName → Option Files → Type 0
 IsThere name None = ⊤
 IsThere name (Some files) = IsSome (file name files)
+
+-- a file that is there and has at least so many bytes
+abbrev pub HasAtLeast : ℕ → Option (List ℕ) → Type 0
+HasAtLeast n None = ⊥
+HasAtLeast n (Some bytes) = n ≤ length bytes
+
+-- the file is there and has at least so many bytes, where the directory tells
+abbrev pub IsAtLeast : ℕ → FileName → Option Files → Type 0
+IsAtLeast n name None = ⊤
+IsAtLeast n name (Some files) = HasAtLeast n (file name files)
+
+-- a file that is there has fewer than 2^64 bytes
+abbrev pub HasFew : Option (List ℕ) → Type 0
+HasFew None = ⊤
+HasFew (Some bytes) = length bytes < 2 ^ 64
+
+-- the same, where the directory tells
+abbrev pub IsSmall : FileName → Option Files → Type 0
+IsSmall name None = ⊤
+IsSmall name (Some files) = HasFew (file name files)

@@ -1,3 +1,14 @@
 pub mod Files
 pub mod Told
 pub mod Synced
+pub mod Disk
+pub mod Images
+pub mod Past
+pub mod Sound
+pub mod NameLaws
+pub mod History
+pub mod DiskLaws
+pub mod SoundPast
+pub mod Choices
+pub mod Crash
+pub mod Copied

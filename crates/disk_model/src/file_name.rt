@@ -12,3 +12,15 @@ pub enum FileName {
     /// `temp.rdb`, a snapshot that is being written.
     DumpTemp,
 }
+
+impl FileName {
+    /// The file's name in its folder.
+    pub fn as_str(self) -> &'static str {
+        match self {
+            FileName::Log => "appendonly.aof",
+            FileName::LogTemp => "temp-rewriteaof.aof",
+            FileName::Dump => "dump.rdb",
+            FileName::DumpTemp => "temp.rdb",
+        }
+    }
+}

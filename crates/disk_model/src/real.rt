@@ -1,6 +1,6 @@
 //! A folder of the file system.
 
-ghost use Rattle.std.specs.Prelude.{◌≡◌, ◌≤◌, ◌↔◌, ℕ, None, IfOk, IsErr, OnOk};
+ghost use Rattle.std.specs.Prelude.{◌≡◌, ◌≤◌, ◌↔◌, ℕ, None, IfOk, IsErr, OnOk, refl};
 ghost use Rattle.core_types.specs.Causes.{HasCause, Rose};
 
 mod file;
@@ -76,6 +76,8 @@ impl<R: Files + Drop> Dir for RealDir<R> {
 
     ghost faults = { λ faults. faults };
 
+    ghost past = { λ _. None };
+
     fn read_all(&mut self, alloc: Global, name: FileName) -> Result<Option<Blob>, ReadAllStop> {
         let file = self.files.named(name);
         match file.read_all(&self.rt, alloc, &self.folder) {
@@ -90,6 +92,11 @@ impl<R: Files + Drop> Dir for RealDir<R> {
         self.counted(done)
     }
 
+    fn cut(&mut self, name: FileName, length: u64) -> Result<(), DirFault> {
+        let done = self.files.named(name).cut(&self.rt, length);
+        self.counted(done)
+    }
+
     fn sync(&mut self, name: FileName) -> Result<(), DirFault> {
         let done = self.files.named(name).sync(&self.rt);
         self.counted(done)
@@ -101,8 +108,18 @@ impl<R: Files + Drop> Dir for RealDir<R> {
         self.counted(done)
     }
 
+    fn rename(&mut self, from: FileName, to: FileName) -> Result<(), DirFault> {
+        self.folder.change_names();
+        let done = self.files.rename(&self.rt, from, to);
+        self.counted(done)
+    }
+
     fn sync_names(&mut self) -> Result<(), DirFault> {
         let done = self.folder.sync_names(&self.rt);
         self.counted(done)
     }
+
+    ghost reads_now = { λ _. refl };
+
+    ghost sound = { λ _. tt };
 }

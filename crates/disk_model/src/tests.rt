@@ -1,3 +1,5 @@
+mod images;
+
 use crate::{Dir, DirFault, FileName, MemoryDir, ReadAllStop, RealDir};
 use core_types::{Blob, NoMemory};
 use std::alloc::Global;
@@ -132,6 +134,53 @@ fn files_are_found_again(rt: HostRuntime) -> Result<(), Fail> {
     Ok(())
 }
 
+// The last byte is cut off, and what is appended then comes in its place. A cut that fails changes nothing.
+#[test]
+fn last_byte_is_cut(rt: HostRuntime) -> Result<(), Fail> {
+    let alloc = rt.alloc();
+    let mut dir = MemoryDir::new(alloc, &[2])?.with_file(FileName::Log, b"abc")?;
+    dir.cut(FileName::Log, 2)?;
+    assert!(rt; dir.cut(FileName::Log, 1).is_err());
+    dir.append(FileName::Log, b"d")?;
+    assert_eq!(rt; dir.content(FileName::Log), Some(b"abd".as_slice()));
+    Ok(())
+}
+
+// The same over a folder.
+#[test]
+fn last_byte_is_cut_in_a_folder(rt: HostRuntime) -> Result<(), Fail> {
+    let alloc = rt.alloc();
+    empty_folder(&rt, "cut")?;
+    let mut dir = RealDir::new(rt, alloc, "cut")?;
+    write(&mut dir, FileName::Log, b"abc")?;
+    dir.cut(FileName::Log, 2)?;
+    dir.append(FileName::Log, b"d")?;
+    dir.sync(FileName::Log)?;
+    let text = fs::read_to_string(&rt, "cut/appendonly.aof")?;
+    assert_eq!(rt; text.as_str(), "abd");
+    fs::remove_dir_all(&rt, "cut")?;
+    Ok(())
+}
+
+// A file moves to another name, in the place of what that had, and goes on there.
+#[test]
+fn file_moves_in_a_folder(rt: HostRuntime) -> Result<(), Fail> {
+    let alloc = rt.alloc();
+    empty_folder(&rt, "moved")?;
+    let mut dir = RealDir::new(rt, alloc, "moved")?;
+    write(&mut dir, FileName::Log, b"old")?;
+    write(&mut dir, FileName::LogTemp, b"new")?;
+    dir.rename(FileName::LogTemp, FileName::Log)?;
+    dir.append(FileName::Log, b"er")?;
+    dir.sync_names()?;
+    let text = fs::read_to_string(&rt, "moved/appendonly.aof")?;
+    assert_eq!(rt; text.as_str(), "newer");
+    assert!(rt; dir.read_all(alloc, FileName::LogTemp)?.is_none());
+    assert!(rt; dir.rename(FileName::LogTemp, FileName::Log).is_err());
+    fs::remove_dir_all(&rt, "moved")?;
+    Ok(())
+}
+
 fn each_call_fails(rt: HostRuntime, alloc: Global, folder: &str) -> Result<bool, NoMemory> {
     let mut dir = RealDir::new(rt, alloc, folder)?;
     let read_fails = matches!(dir.read_all(alloc, FileName::Log), Err(ReadAllStop::Dir));
@@ -139,6 +188,7 @@ fn each_call_fails(rt: HostRuntime, alloc: Global, folder: &str) -> Result<bool,
         read_fails
             && dir.create(FileName::Log).is_err()
             && dir.append(FileName::Log, b"a").is_err()
+            && dir.cut(FileName::Log, 0).is_err()
             && dir.sync(FileName::Log).is_err()
             && dir.sync_names().is_err(),
     )

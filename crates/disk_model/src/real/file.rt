@@ -1,7 +1,7 @@
 //! One file of the folder: its handle, and whether its bytes are on the disk.
 
 ghost use Rattle.std.specs.Prelude.{◌≡◌, ◌⊎◌, IsOk, IsErr, OnOk, OnErr};
-ghost use Rattle.disk_model.specs.Synced.{after_change};
+ghost use Rattle.disk_model.specs.Synced.{after_change, either_of};
 
 use super::folder::RealFolder;
 use super::synced::Synced;
@@ -53,14 +53,15 @@ impl<R: Files> RealFile<R> {
         }
     }
 
-    /// Makes the file new and empty. Nothing is left of it that a failed sync may have lost.
+    /// Makes the file new and empty. Nothing is left of it that a failed sync may have lost. The handle that
+    /// makes it is closed: it would go on writing at its own place where the file is cut.
     pub(crate) fn create(&mut self, rt: &R) -> io::Result<()>
         ensures ok { OnOk result (self.new.bytes ≡ Synced.No) }
         ensures err { OnErr result (self.new.bytes ≡ after_change self.old.bytes) }
     {
         self.bytes = self.bytes.after_change();
         self.handle = None;
-        self.handle = Some(File::create(rt, &self.path)?);
+        let _ = File::create(rt, &self.path)?;
         self.bytes = Synced::No;
         Ok(())
     }
@@ -72,6 +73,17 @@ impl<R: Files> RealFile<R> {
         self.bytes = self.bytes.after_change();
         let mut file = self.take_handle(rt)?;
         let done = file.write_all(bytes);
+        self.handle = Some(file);
+        done
+    }
+
+    /// Keeps the first bytes, so many. On an `Err` this has happened or not.
+    pub(crate) fn cut(&mut self, rt: &R, length: u64) -> io::Result<()>
+        ensures unsynced { self.new.bytes ≡ after_change self.old.bytes }
+    {
+        self.bytes = self.bytes.after_change();
+        let file = self.take_handle(rt)?;
+        let done = file.set_len(length);
         self.handle = Some(file);
         done
     }
@@ -92,6 +104,33 @@ impl<R: Files> RealFile<R> {
             }
             Synced::Failed => Err(io::Error::from(ErrorKind::Other)),
         }
+    }
+
+    /// The path.
+    pub(crate) fn path(&self) -> &PathBuf {
+        &self.path
+    }
+
+    /// Closes the file, which is to move to another path: whether its bytes are on the disk.
+    pub(crate) fn leave(&mut self) -> Synced
+        ensures bytes { result ≡ self.old.bytes }
+        ensures same { self.new.bytes ≡ self.old.bytes }
+    {
+        self.handle = None;
+        self.bytes
+    }
+
+    /// Notes that a file with such bytes has moved to this path, or may have where the move failed.
+    pub(crate) fn replace(&mut self, came: Synced, done: &io::Result<()>)
+        ensures ok { IsOk done.now → self.new.bytes ≡ came }
+        ensures err { IsErr done.now → self.new.bytes ≡ either_of self.old.bytes came }
+    {
+        self.handle = None;
+        self.bytes = if done.is_ok() {
+            came
+        } else {
+            self.bytes.or(came)
+        };
     }
 
     // Asks the system to sync, and keeps the handle. A failure is never forgotten.

@@ -1,7 +1,7 @@
 //! Whether a sync is owed.
 
 ghost use Rattle.std.specs.Prelude.{◌≡◌, if◌then◌else◌, is_ok};
-ghost use Rattle.disk_model.specs.Synced.{after_change};
+ghost use Rattle.disk_model.specs.Synced.{after_change, either_of};
 
 use std::io;
 
@@ -25,6 +25,17 @@ impl Synced {
         match self {
             Synced::Yes | Synced::No => Synced::No,
             Synced::Failed => Synced::Failed,
+        }
+    }
+
+    /// What is known of a file that is one of two.
+    pub(crate) fn or(self, other: Synced) -> Synced
+        ensures { result ≡ either_of self other }
+    {
+        match (self, other) {
+            (Synced::Failed, _) | (_, Synced::Failed) => Synced::Failed,
+            (Synced::Yes, Synced::Yes) => Synced::Yes,
+            _ => Synced::No,
         }
     }
 

@@ -1,0 +1,4 @@
+pub mod Moments
+pub mod Images
+mod Appends
+mod Copies
