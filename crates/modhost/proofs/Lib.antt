@@ -12,3 +12,6 @@ pub mod StoredKeys
 pub mod Steps
 pub mod KeyCount
 pub mod Loggable
+pub mod Effects
+pub mod Replayed
+pub mod SecondRun

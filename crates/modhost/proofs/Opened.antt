@@ -1,24 +1,40 @@
 -- What was served over a log that was opened for it.
-use Rattle.std.proofs.Common.{◌⊎◌, ℕ, ◌≤◌, List, [], Option, Some, None, ap, ◌∙◌, inl, inr}
+use Rattle.std.proofs.Common.{◌≡◌, ◌⊎◌, ℕ, ◌≤◌, List, [], ◌∷◌, ◌++◌, Option, Some, None, IfSome, refl, ap, subst, ◌∙◌, inl, inr}
 use Rattle.std.specs.Option.{option_map}
+use Rattle.std.specs.List.{AllByRecursion}
 use Rattle.std.proofs.KnownBytes.{Keeps-refl}
+use Rattle.core_types.specs.Keys.{Keys}
+use Rattle.core_types.specs.declared.bad_request.BadRequest.{BadRequest}
+use Rattle.resp_codec.specs.Requests.{Piece, IsPiece, requests_of}
 use Rattle.disk_model.specs.declared.file_name.FileName.TheVariants.{Log}
-use Rattle.disk_model.specs.Files.{Files, with_file, Become}
+use Rattle.disk_model.specs.Files.{Files, with_file, Become, Stay}
+use Rattle.restart.specs.declared.opening.OpenStop.{OpenStop}
+use Rattle.restart.specs.declared.opening.OpenStop.TheVariants as stop
+use Rattle.restart.specs.Restart.{Opening, Opens, IsOpen, OpenStops}
 use Rattle.modhost.specs.declared.status.Status.{Status}
 use Rattle.modhost.specs.declared.status.Status.TheVariants as status
-use Rattle.modhost.specs.Pipe.{Outside, IsFresh, HasTaken, BeginsWith, Serves, ServesSome, ServesAll, CutsOff, Refuses, SendsPart, SendsPartOfError, LogsPart, StopsReading, StopsAtLimit}
-use Rattle.resp_codec.specs.Requests.{Piece}
-use Rattle.core_types.specs.declared.bad_request.BadRequest.{BadRequest}
-use Rattle.modhost.specs.Serving.{OpenStops}
-use Rattle.modhost.specs.Ending.{outside, PipeEnds, ServeEnds}
+use Rattle.modhost.specs.Run.{units}
+use Rattle.modhost.specs.Replay.{replay}
+use Rattle.modhost.specs.Stops.{status_of_stop}
+use Rattle.modhost.specs.Pipe.{Outside, IsUntouched, StandsFor, HasTaken, BeginsWith, Serves, ServesSome, ServesAll, CutsOff, Refuses, SendsPart, SendsPartOfError, LogsPart, StopsReading, StopsAtLimit}
+use Rattle.modhost.specs.Ending.{outside, opening_at, PipeEnds, ServeEnds}
 use Rattle.modhost.proofs.Stopped.{rose_within}
+use Rattle.modhost.proofs.Replayed.{stands, stands_more, stands_torn}
 
--- the log that was opened empty has these bytes, as one that was not there
-pub opened_log : (bytes : List ℕ) (f g h : Option Files) → Become (with_file Log []) f g → Become (with_file Log bytes) g h → Become (with_file Log bytes) f h
-opened_log bytes None g h first second = second ∙ ap (option_map (with_file Log bytes)) first
-opened_log bytes (Some f) g h first second = second ∙ ap (option_map (with_file Log bytes)) first
+-- the log that was opened with some bytes has these now, as one that had others
+pub opened_log : (log bytes : List ℕ) (f g h : Option Files) → Become (with_file Log log) f g → Become (with_file Log bytes) g h → Become (with_file Log bytes) f h
+opened_log log bytes None g h first second = second ∙ ap (option_map (with_file Log bytes)) first
+opened_log log bytes (Some f) g h first second = second ∙ ap (option_map (with_file Log bytes)) first
 
-module _ (input left sent0 sent : Option (List ℕ)) (f g h : Option Files) (opened : Become (with_file Log []) f g) where
+same_opening : (files : Files) (g : Option Files) (keys : Keys) (o : Opening) → o.keys ≡ keys → Become (with_file Log o.log) (Some files) g → o ≡ opening_at g keys
+same_opening files g keys o same become = rw (become, ← same) refl
+
+-- the directory stood for what was opened
+pub opens_there : (f g : Option Files) (keys : Keys) (o : Opening) → IsOpen replay f g o → o.keys ≡ keys → IfSome f (λ known. Opens replay known (opening_at g keys))
+opens_there None g keys o is same = tt
+opens_there (Some files) g keys o is same = subst (λ (p : Opening). Opens replay files p) (same_opening files g keys o same is.log) is.opens
+
+module _ (input left sent0 sent : Option (List ℕ)) (f g h : Option Files) (log : List ℕ) (opened : Become (with_file Log log) f g) (opening : Opening) (opens : IfSome f (λ known. Opens replay known opening)) where
   abbrev old : Outside
   old = outside input left sent0 sent g h
 
@@ -31,57 +47,66 @@ module _ (input left sent0 sent : Option (List ℕ)) (f g h : Option Files) (ope
   begins : (pieces : List Piece) → BeginsWith old pieces → BeginsWith new pieces
   begins pieces b = record { each = b.each; bytes = b.bytes }
 
-  serves : (pieces : List Piece) → Serves old pieces → Serves new pieces
-  serves pieces s = record { sent = s.sent; logged = opened_log _ f g h opened s.logged }
+  serves : (pieces : List Piece) → Serves old opening pieces → Serves new opening pieces
+  serves pieces s = record { sent = s.sent; logged = opened_log log _ f g h opened s.logged }
 
-  some : ServesSome old → ServesSome new
+  some : ServesSome old opening → ServesSome new opening
   some s = record { pieces = s.pieces; begins = begins s.pieces s.begins; serves = serves s.pieces s.serves; going = s.going }
 
-  all : ServesAll old → ServesAll new
+  all : ServesAll old opening → ServesAll new opening
   all s = record { pieces = s.pieces; beyond = s.beyond; takes = takes s.pieces s.beyond s.takes; serves = serves s.pieces s.serves; ended = s.ended }
 
-  cut : (count : ℕ) → CutsOff old count → CutsOff new count
+  cut : (count : ℕ) → CutsOff old opening count → CutsOff new opening count
   cut count s = record { pieces = s.pieces; beyond = s.beyond; takes = takes s.pieces s.beyond s.takes; serves = serves s.pieces s.serves; going = s.going; end = s.end; begun = s.begun; length_is = s.length_is; some = s.some }
 
-  refuses : (kind : BadRequest) (offset : ℕ) → Refuses old kind offset → Refuses new kind offset
-  refuses kind offset s = record { pieces = s.pieces; beyond = s.beyond; at = s.at; takes = takes s.pieces s.beyond s.takes; going = s.going; bad = s.bad; place = s.place; sent = s.sent; logged = opened_log _ f g h opened s.logged }
+  refuses : (kind : BadRequest) (offset : ℕ) → Refuses old opening kind offset → Refuses new opening kind offset
+  refuses kind offset s = record { pieces = s.pieces; beyond = s.beyond; at = s.at; takes = takes s.pieces s.beyond s.takes; going = s.going; bad = s.bad; place = s.place; sent = s.sent; logged = opened_log log _ f g h opened s.logged }
 
-  reading : StopsReading old → StopsReading new
+  reading : StopsReading old opening → StopsReading new opening
   reading s = record { pieces = s.pieces; beyond = s.beyond; takes = takes s.pieces s.beyond s.takes; serves = serves s.pieces s.serves; going = s.going; begun = s.begun }
 
-  limit : StopsAtLimit old → StopsAtLimit new
+  limit : StopsAtLimit old opening → StopsAtLimit new opening
   limit s = record { pieces = s.pieces; beyond = s.beyond; more = s.more; each = s.each; bytes = s.bytes; full = s.full; some = s.some; serves = serves s.pieces s.serves; going = s.going; begun = s.begun }
 
-  logs : LogsPart old → LogsPart new
-  logs s = record { pieces = s.pieces; next = s.next; words = s.words; begins = begins _ s.begins; going = s.going; request = s.request; sent = s.sent; logged = (s.logged.0, opened_log _ f g h opened s.logged.1); some = s.some }
+  logs : LogsPart old opening → LogsPart new opening
+  logs s = record { pieces = s.pieces; next = s.next; words = s.words; begins = begins _ s.begins; going = s.going; request = s.request; sent = s.sent; logged = (s.logged.0, opened_log log _ f g h opened s.logged.1); some = s.some }
 
-  sends : SendsPart old → SendsPart new
-  sends s = record { pieces = s.pieces; last = s.last; words = s.words; begins = begins _ s.begins; going = s.going; request = s.request; sent = s.sent; logged = opened_log _ f g h opened s.logged }
+  sends : SendsPart old opening → SendsPart new opening
+  sends s = record { pieces = s.pieces; last = s.last; words = s.words; begins = begins _ s.begins; going = s.going; request = s.request; sent = s.sent; logged = opened_log log _ f g h opened s.logged }
 
-  sends_error : SendsPartOfError old → SendsPartOfError new
-  sends_error s = record { pieces = s.pieces; beyond = s.beyond; kind = s.kind; at = s.at; takes = takes s.pieces s.beyond s.takes; going = s.going; bad = s.bad; sent = s.sent; logged = opened_log _ f g h opened s.logged }
+  sends_error : SendsPartOfError old opening → SendsPartOfError new opening
+  sends_error s = record { pieces = s.pieces; beyond = s.beyond; kind = s.kind; at = s.at; takes = takes s.pieces s.beyond s.takes; going = s.going; bad = s.bad; sent = s.sent; logged = opened_log log _ f g h opened s.logged }
 
-  either : SendsPart old ⊎ SendsPartOfError old → SendsPart new ⊎ SendsPartOfError new
-  either (inl s) = inl (sends s)
-  either (inr s) = inr (sends_error s)
+  parts : SendsPart old opening ⊎ SendsPartOfError old opening → ((part : SendsPart new opening) × StandsFor new opening (part.pieces ++ part.last ∷ [])) ⊎ ((part : SendsPartOfError new opening) × StandsFor new opening part.pieces)
+  unfolding sends sends_error
+  parts (inl s) = inl (sends s, stands_more f h opening s.pieces s.last s.words opens s.begins.each s.request (opened_log log _ f g h opened s.logged))
+  parts (inr s) = inr (sends_error s, stands f h opening s.pieces opens s.takes.each (opened_log log _ f g h opened s.logged))
+
+  stands_for : (pieces : List Piece) → AllByRecursion IsPiece pieces → Become (with_file Log (opening.log ++ units (requests_of pieces) opening.keys)) g h → StandsFor new opening pieces
+  stands_for pieces each logged = stands f h opening pieces opens each (opened_log log _ f g h opened logged)
 
   -- a run that opened its log ends as its serving does
-  pub pipe_ends : (end : Status) (dir0 dir dir' source source' sink sink' : ℕ) → IsFresh f → dir0 ≤ dir → ServeEnds end old dir dir' source source' sink sink' → PipeEnds end new dir0 dir' source source' sink sink'
-  pipe_ends status.Done dir0 dir dir' source source' sink sink' fresh later e = (fresh, all e)
-  pipe_ends status.DirFault dir0 dir dir' source source' sink sink' fresh later e = (rose_within dir0 dir dir' later e.0, inr (fresh, logs e.1))
-  pipe_ends status.ReadFault dir0 dir dir' source source' sink sink' fresh later e = (e.0, (fresh, reading e.1))
-  pipe_ends status.WriteFault dir0 dir dir' source source' sink sink' fresh later e = (e.0, (fresh, either e.1))
-  pipe_ends status.Memory dir0 dir dir' source source' sink sink' fresh later e = inr (fresh, some e)
-  pipe_ends (status.Protocol kind offset) dir0 dir dir' source source' sink sink' fresh later e = (fresh, refuses kind offset e)
-  pipe_ends (status.CutOff count) dir0 dir dir' source source' sink sink' fresh later e = (fresh, cut count e)
-  pipe_ends status.TooLong dir0 dir dir' source source' sink sink' fresh later e = (fresh, limit e)
-  pipe_ends (status.Usage place) dir0 dir dir' source source' sink sink' fresh later e = absurd e
-  pipe_ends (status.NotBuilt what) dir0 dir dir' source source' sink sink' fresh later e = absurd e
+  pub pipe_ends : (end : Status) (dir0 dir dir' source source' sink sink' : ℕ) → dir0 ≤ dir → ServeEnds end old opening dir dir' source source' sink sink' → PipeEnds end new dir0 dir' source source' sink sink'
+  unfolding all reading some refuses cut limit logs
+  pipe_ends status.Done dir0 dir dir' source source' sink sink' later e = (opening, opens, (all e, stands_for e.pieces e.takes.each e.serves.logged))
+  pipe_ends status.DirFault dir0 dir dir' source source' sink sink' later e = (rose_within dir0 dir dir' later e.0, inr (opening, opens, (logs e.1, stands_torn f h opening e.1.pieces e.1.next e.1.words e.1.logged.0 opens e.1.begins.each e.1.request (opened_log log _ f g h opened e.1.logged.1))))
+  pipe_ends status.ReadFault dir0 dir dir' source source' sink sink' later e = (e.0, (opening, opens, (reading e.1, stands_for e.1.pieces e.1.takes.each e.1.serves.logged)))
+  pipe_ends status.WriteFault dir0 dir dir' source source' sink sink' later e = (e.0, (opening, opens, parts e.1))
+  pipe_ends status.Memory dir0 dir dir' source source' sink sink' later e = inr (opening, opens, (some e, stands_for e.pieces e.begins.each e.serves.logged))
+  pipe_ends (status.Protocol kind offset) dir0 dir dir' source source' sink sink' later e = (opening, opens, (refuses kind offset e, stands_for e.pieces e.takes.each e.logged))
+  pipe_ends (status.CutOff count) dir0 dir dir' source source' sink sink' later e = (opening, opens, (cut count e, stands_for e.pieces e.takes.each e.serves.logged))
+  pipe_ends status.TooLong dir0 dir dir' source source' sink sink' later e = (opening, opens, (limit e, stands_for e.pieces e.each e.serves.logged))
+  pipe_ends (status.Usage place) dir0 dir dir' source source' sink sink' later e = absurd e
+  pipe_ends (status.LogRefused file offset why) dir0 dir dir' source source' sink sink' later e = absurd e
+  pipe_ends (status.NotBuilt what) dir0 dir dir' source source' sink sink' later e = absurd e
+
+untouched : (input sent : Option (List ℕ)) (f g : Option Files) → Stay f g → IsUntouched (outside input input sent sent f g)
+untouched input sent f g stay = record { input = Keeps-refl input; sent = Keeps-refl sent; files = stay }
 
 -- a run whose log could not be opened
-pub pipe_unopened : (end : Status) (input sent : Option (List ℕ)) (f g : Option Files) (dir dir' source sink : ℕ) → OpenStops end dir dir' f g
-    → PipeEnds end (outside input input sent sent f g) dir dir' source source sink sink
-pipe_unopened status.DirFault input sent f g dir dir' source sink stop = (stop.0, inl (record { input = Keeps-refl input; sent = Keeps-refl sent; files = stop.1 }))
-pipe_unopened status.Memory input sent f g dir dir' source sink stop = inl (record { input = Keeps-refl input; sent = Keeps-refl sent; files = stop })
-pipe_unopened (status.NotBuilt what) input sent f g dir dir' source sink stop = (stop.0, (stop.1, record { input = Keeps-refl input; sent = Keeps-refl sent; files = stop.2 }))
-pipe_unopened end input sent f g dir dir' source sink stop = absurd stop
+pub pipe_unopened : (stop : OpenStop) (input sent : Option (List ℕ)) (f g : Option Files) (dir dir' source sink : ℕ) → OpenStops replay stop dir dir' f g
+    → PipeEnds (status_of_stop stop) (outside input input sent sent f g) dir dir' source source sink sink
+pipe_unopened stop.Dir input sent f g dir dir' source sink is = (is.0, inl (record { input = Keeps-refl input; sent = Keeps-refl sent; files = is.1 }))
+pipe_unopened stop.Memory input sent f g dir dir' source sink is = inl (untouched input sent f g is)
+pipe_unopened stop.NotBuilt input sent f g dir dir' source sink is = (refl, (is.0, untouched input sent f g is.1))
+pipe_unopened (stop.LogRefused file offset why) input sent f g dir dir' source sink is = record { log = is.0; refused = is.1; untouched = untouched input sent f g is.2 }

@@ -4,7 +4,8 @@ use Rattle.std.specs.Option.{option_map}
 use Rattle.std.specs.List.{AllByRecursion, list_any, concat}
 use Rattle.std.specs.Io.KnownBytes.{Appends, Consumes}
 use Rattle.std.proofs.KnownBytes.{Appends-trans}
-use Rattle.core_types.specs.Keys.{Keys, no_keys}
+use Rattle.core_types.specs.Keys.{Keys}
+use Rattle.restart.specs.Restart.{Opening}
 use Rattle.resp_codec.specs.Spelling.{Spells, SkipsAll}
 use Rattle.resp_codec.specs.Stream.{Stream, Passes}
 use Rattle.resp_codec.specs.Requests.{Piece, IsPiece, bytes_of, requests_of}
@@ -35,10 +36,10 @@ begins None left front back c = tt
 begins (Some i) None front back c = absurd c
 begins (Some i) (Some l) front back c = (back ++ l, c ∙ append_assoc front back l)
 
-module _ (store : Keys) (stream stream' : Stream) (bytes : ℕ) (input left sent0 sent : Option (List ℕ)) (files0 files : Option Files) where
+module _ {opening : Opening} (store : Keys) (stream stream' : Stream) (bytes : ℕ) (input left sent0 sent : Option (List ℕ)) (files0 files : Option Files) where
   -- what asks for nothing was passed
-  pub skips_on : Progress store stream bytes (outside input left sent0 sent files0 files) → (skipped : List (List ℕ)) → SkipsAll skipped → Passes stream stream' (concat skipped)
-      → Progress store stream' bytes (outside input left sent0 sent files0 files)
+  pub skips_on : Progress store stream bytes (outside input left sent0 sent files0 files) opening → (skipped : List (List ℕ)) → SkipsAll skipped → Passes stream stream' (concat skipped)
+      → Progress store stream' bytes (outside input left sent0 sent files0 files) opening
   skips_on p skipped all passes =
       let same = requests_skipped p.pieces skipped in
       let stay = bytes_skipped p.pieces skipped stream.rest stream'.rest passes.rest in
@@ -46,7 +47,7 @@ module _ (store : Keys) (stream stream' : Stream) (bytes : ℕ) (input left sent
       = sym (length-append (bytes_of (p.pieces ++ skips skipped)) stream'.rest) ∙ ap length stay ∙ length-append (bytes_of p.pieces) stream.rest in
       record {
         pieces = p.pieces ++ skips skipped;
-        keys = p.keys ∙ ap (λ (r : List (List (List ℕ))). keys_after r no_keys) (sym same);
+        keys = p.keys ∙ ap (λ (r : List (List (List ℕ))). keys_after r opening.keys) (sym same);
         going = ap (list_any quits) same ∙ p.going;
         takes = record {
           each = all-append p.pieces (skips skipped) p.takes.each (are_pieces skipped all);
@@ -54,8 +55,8 @@ module _ (store : Keys) (stream stream' : Stream) (bytes : ℕ) (input left sent
           within = omega (arith, p.takes.within, ap length stay);
         };
         serves = record {
-          sent = subst (λ (r : List (List (List ℕ))). Appends sent0 sent (replies r no_keys)) (sym same) p.serves.sent;
-          logged = subst (λ (r : List (List (List ℕ))). Become (with_file Log (units r no_keys)) files0 files) (sym same) p.serves.logged;
+          sent = subst (λ (r : List (List (List ℕ))). Appends sent0 sent (replies r opening.keys)) (sym same) p.serves.sent;
+          logged = subst (λ (r : List (List (List ℕ))). Become (with_file Log (opening.log ++ units r opening.keys)) files0 files) (sym same) p.serves.logged;
         };
         passed = omega (arith, passes.passed, p.passed, count, ap length passes.rest, length-append (concat skipped) stream'.rest);
         taken = p.taken ∙ sym (ap length stay);
@@ -67,8 +68,8 @@ pub record Serving (store store' : Keys) (words : List (List ℕ)) (sent sent' :
   pub reply : Appends sent sent' (text (does store words).reply)
   pub logged : Become (with_appended Log (unit (does store words).effects)) files files'
 
-module _ (store store' : Keys) (stream stream' : Stream) (bytes : ℕ) (spelling : List ℕ) (words : List (List ℕ)) (input left sent0 sent sent' : Option (List ℕ)) (files0 files files' : Option Files)
-    (p : Progress store stream bytes (outside input left sent0 sent files0 files)) (spells : Spells spelling words) (passes : Passes stream stream' spelling) where
+module _ {opening : Opening} (store store' : Keys) (stream stream' : Stream) (bytes : ℕ) (spelling : List ℕ) (words : List (List ℕ)) (input left sent0 sent sent' : Option (List ℕ)) (files0 files files' : Option Files)
+    (p : Progress store stream bytes (outside input left sent0 sent files0 files) opening) (spells : Spells spelling words) (passes : Passes stream stream' spelling) where
   abbrev pub one_more : List Piece
   one_more = p.pieces ++ asks spelling words ∷ []
 
@@ -91,26 +92,26 @@ module _ (store store' : Keys) (stream stream' : Stream) (bytes : ℕ) (spelling
   pub has_taken : HasTaken (outside input left sent0 sent' files0 files') one_more stream'.rest
   has_taken = record { each = each; bytes = consumed; within = omega (arith, p.takes.within, ap length stay) }
 
-  sent_all : Appends sent sent' (text (does store words).reply) → Appends sent0 sent' (replies (requests_of one_more) no_keys)
+  sent_all : Appends sent sent' (text (does store words).reply) → Appends sent0 sent' (replies (requests_of one_more) opening.keys)
   sent_all reply =
-      let all : replies (requests_of p.pieces) no_keys ++ text (does store words).reply ≡ replies (requests_of one_more) no_keys
-      = ap (λ (k : Keys). replies (requests_of p.pieces) no_keys ++ text (does k words).reply) p.keys ∙ sym (replies_push (requests_of p.pieces) words no_keys) ∙ ap (λ (r : List (List (List ℕ))). replies r no_keys) (sym asked) in
+      let all : replies (requests_of p.pieces) opening.keys ++ text (does store words).reply ≡ replies (requests_of one_more) opening.keys
+      = ap (λ (k : Keys). replies (requests_of p.pieces) opening.keys ++ text (does k words).reply) p.keys ∙ sym (replies_push (requests_of p.pieces) words opening.keys) ∙ ap (λ (r : List (List (List ℕ))). replies r opening.keys) (sym asked) in
       subst (λ (r : List ℕ). Appends sent0 sent' r) all (Appends-trans sent0 sent sent' _ _ p.serves.sent reply)
 
-  pub logged_asked : Become (with_appended Log (unit (does store words).effects)) files files' → Become (with_file Log (units (requests_of p.pieces ++ words ∷ []) no_keys)) files0 files'
+  pub logged_asked : Become (with_appended Log (unit (does store words).effects)) files files' → Become (with_file Log (opening.log ++ units (requests_of p.pieces ++ words ∷ []) opening.keys)) files0 files'
   logged_asked logged =
-      let all : units (requests_of p.pieces) no_keys ++ unit (does store words).effects ≡ units (requests_of p.pieces ++ words ∷ []) no_keys
-      = ap (λ (k : Keys). units (requests_of p.pieces) no_keys ++ unit (does k words).effects) p.keys ∙ sym (units_push (requests_of p.pieces) words no_keys) in
+      let all : opening.log ++ units (requests_of p.pieces) opening.keys ++ unit (does store words).effects ≡ opening.log ++ units (requests_of p.pieces ++ words ∷ []) opening.keys
+      = append_assoc opening.log _ _ ∙ ap (λ (u : List ℕ). opening.log ++ u) (ap (λ (k : Keys). units (requests_of p.pieces) opening.keys ++ unit (does k words).effects) p.keys ∙ sym (units_push (requests_of p.pieces) words opening.keys)) in
       subst (λ (u : List ℕ). Become (with_file Log u) files0 files') all (logged_more _ _ files0 files files' p.serves.logged logged)
 
-  pub served_one : Serving store store' words sent sent' files files' → Serves (outside input left sent0 sent' files0 files') one_more
+  pub served_one : Serving store store' words sent sent' files files' → Serves (outside input left sent0 sent' files0 files') opening one_more
   served_one s = record {
     sent = sent_all s.reply;
-    logged = subst (λ (r : List (List (List ℕ))). Become (with_file Log (units r no_keys)) files0 files') (sym asked) (logged_asked s.logged);
+    logged = subst (λ (r : List (List (List ℕ))). Become (with_file Log (opening.log ++ units r opening.keys)) files0 files') (sym asked) (logged_asked s.logged);
   }
 
   -- it was QUIT
-  pub quits_now : Serving store store' words sent sent' files files' → quits words ≡ true → ServesAll (outside input left sent0 sent' files0 files')
+  pub quits_now : Serving store store' words sent sent' files files' → quits words ≡ true → ServesAll (outside input left sent0 sent' files0 files') opening
   quits_now s quit = record {
     pieces = one_more;
     beyond = stream'.rest;
@@ -120,13 +121,13 @@ module _ (store store' : Keys) (stream stream' : Stream) (bytes : ℕ) (spelling
   }
 
   -- it was not
-  pub goes_on : Serving store store' words sent sent' files files' → quits words ≡ false → Progress store' stream' bytes (outside input left sent0 sent' files0 files')
+  pub goes_on : Serving store store' words sent sent' files files' → quits words ≡ false → Progress store' stream' bytes (outside input left sent0 sent' files0 files') opening
   goes_on s not =
       let count : length (bytes_of one_more) + length stream'.rest ≡ length (bytes_of p.pieces) + length stream.rest
       = sym (length-append (bytes_of one_more) stream'.rest) ∙ ap length stay ∙ length-append (bytes_of p.pieces) stream.rest in
       record {
         pieces = one_more;
-        keys = s.keys ∙ ap (λ (k : Keys). (does k words).keys) p.keys ∙ sym (keys_after_push (requests_of p.pieces) words no_keys) ∙ ap (λ (r : List (List (List ℕ))). keys_after r no_keys) (sym asked);
+        keys = s.keys ∙ ap (λ (k : Keys). (does k words).keys) p.keys ∙ sym (keys_after_push (requests_of p.pieces) words opening.keys) ∙ ap (λ (r : List (List (List ℕ))). keys_after r opening.keys) (sym asked);
         going = ap (list_any quits) asked ∙ quits_push (requests_of p.pieces) words p.going ∙ not;
         takes = has_taken;
         serves = served_one s;

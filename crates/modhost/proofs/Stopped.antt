@@ -2,7 +2,8 @@
 use Rattle.std.proofs.Common.{◌≡◌, ℕ, ◌+◌, ◌^◌, ◌≤◌, ◌<◌, List, ◌++◌, length, take, Option, refl, sym, ap, subst, ◌∙◌, inl, inr, arith}
 use Rattle.std.specs.Io.KnownBytes.{Appends, Keeps}
 use Rattle.std.proofs.KnownBytes.{Appends-trans, Appends-kept, Keeps-refl, Consumes-kept, Consumes-trans}
-use Rattle.core_types.specs.Keys.{Keys, no_keys}
+use Rattle.core_types.specs.Keys.{Keys}
+use Rattle.restart.specs.Restart.{Opening}
 use Rattle.core_types.specs.Causes.{Rose}
 use Rattle.core_types.specs.declared.bad_request.BadRequest.{BadRequest}
 use Rattle.resp_codec.specs.Spelling.{Spells}
@@ -29,8 +30,8 @@ pub rose_within : (first before now : ℕ) → first ≤ before → Rose before 
 rose_within first before now later rose = omega arith
 
 -- the requests so far were served
-pub serves_some : (store : Keys) (stream : Stream) (bytes : ℕ) (input left left' sent0 sent sent' : Option (List ℕ)) (files0 files files' : Option Files)
-    → Progress store stream bytes (outside input left sent0 sent files0 files) → Keeps sent sent' → files' ≡ files → ServesSome (outside input left' sent0 sent' files0 files')
+pub serves_some : {opening : Opening} (store : Keys) (stream : Stream) (bytes : ℕ) (input left left' sent0 sent sent' : Option (List ℕ)) (files0 files files' : Option Files)
+    → Progress store stream bytes (outside input left sent0 sent files0 files) opening → Keeps sent sent' → files' ≡ files → ServesSome (outside input left' sent0 sent' files0 files') opening
 serves_some store stream bytes input left left' sent0 sent sent' files0 files files' p kept same = record {
   pieces = p.pieces;
   begins = record { each = p.takes.each; bytes = begins input left (bytes_of p.pieces) stream.rest p.takes.bytes };
@@ -39,17 +40,17 @@ serves_some store stream bytes input left left' sent0 sent sent' files0 files fi
 }
 
 -- a request was not served to its end
-pub stops_serving : (end : Status) (store : Keys) (stream stream' : Stream) (bytes : ℕ) (spelling : List ℕ) (words : List (List ℕ)) (input left sent0 sent sent' : Option (List ℕ)) (files0 files files' : Option Files)
-    (dir0 dir dir' source source' sink0 sink sink' : ℕ) (p : Progress store stream bytes (outside input left sent0 sent files0 files))
+pub stops_serving : {opening : Opening} (end : Status) (store : Keys) (stream stream' : Stream) (bytes : ℕ) (spelling : List ℕ) (words : List (List ℕ)) (input left sent0 sent sent' : Option (List ℕ)) (files0 files files' : Option Files)
+    (dir0 dir dir' source source' sink0 sink sink' : ℕ) (p : Progress store stream bytes (outside input left sent0 sent files0 files) opening)
     → Spells spelling words → Passes stream stream' spelling → dir0 ≤ dir → sink0 ≤ sink
     → ServeStops end (does store words) (record { old = files; new = files'; faults_old = dir; faults_new = dir' }) (record { old = sent; new = sent'; faults_old = sink; faults_new = sink' })
-    → SourceStops end (outside input left sent0 sent' files0 files') dir0 dir' source source' sink0 sink'
-stops_serving status.Memory store stream stream' bytes spelling words input left sent0 sent sent' files0 files files' dir0 dir dir' source source' sink0 sink sink' p spells passes dir_later sink_later stop =
+    → SourceStops end (outside input left sent0 sent' files0 files') opening dir0 dir' source source' sink0 sink'
+stops_serving {opening = opening} status.Memory store stream stream' bytes spelling words input left sent0 sent sent' files0 files files' dir0 dir dir' source source' sink0 sink sink' p spells passes dir_later sink_later stop =
     serves_some store stream bytes input left left sent0 sent sent' files0 files files' p stop.1 stop.0
-stops_serving status.DirFault store stream stream' bytes spelling words input left sent0 sent sent' files0 files files' dir0 dir dir' source source' sink0 sink sink' p spells passes dir_later sink_later stop =
+stops_serving {opening = opening} status.DirFault store stream stream' bytes spelling words input left sent0 sent sent' files0 files files' dir0 dir dir' source source' sink0 sink sink' p spells passes dir_later sink_later stop =
     let log = stop.0.1 in
-    let same : (count : ℕ) → units (requests_of p.pieces) no_keys ++ take count (unit (does store words).effects) ≡ units (requests_of p.pieces) no_keys ++ take count (unit (does (keys_after (requests_of p.pieces) no_keys) words).effects)
-    = λ count. ap (λ (k : Keys). units (requests_of p.pieces) no_keys ++ take count (unit (does k words).effects)) p.keys in (
+    let same : (count : ℕ) → opening.log ++ units (requests_of p.pieces) opening.keys ++ take count (unit (does store words).effects) ≡ opening.log ++ units (requests_of p.pieces) opening.keys ++ take count (unit (does (keys_after (requests_of p.pieces) opening.keys) words).effects)
+    = λ count. ap (λ (k : Keys). opening.log ++ units (requests_of p.pieces) opening.keys ++ take count (unit (does k words).effects)) p.keys in (
       rose_within dir0 dir dir' dir_later stop.0.0,
       record {
         pieces = p.pieces;
@@ -63,10 +64,10 @@ stops_serving status.DirFault store stream stream' bytes spelling words input le
         some = subst (λ (k : Keys). 0 < length (unit (does k words).effects)) p.keys stop.0.2;
       },
     )
-stops_serving status.WriteFault store stream stream' bytes spelling words input left sent0 sent sent' files0 files files' dir0 dir dir' source source' sink0 sink sink' p spells passes dir_later sink_later stop =
+stops_serving {opening = opening} status.WriteFault store stream stream' bytes spelling words input left sent0 sent sent' files0 files files' dir0 dir dir' source source' sink0 sink sink' p spells passes dir_later sink_later stop =
     let part = stop.2 in
-    let same : (count : ℕ) → replies (requests_of p.pieces) no_keys ++ take count (text (does store words).reply) ≡ replies (requests_of p.pieces) no_keys ++ take count (text (does (keys_after (requests_of p.pieces) no_keys) words).reply)
-    = λ count. ap (λ (k : Keys). replies (requests_of p.pieces) no_keys ++ take count (text (does k words).reply)) p.keys in (
+    let same : (count : ℕ) → replies (requests_of p.pieces) opening.keys ++ take count (text (does store words).reply) ≡ replies (requests_of p.pieces) opening.keys ++ take count (text (does (keys_after (requests_of p.pieces) opening.keys) words).reply)
+    = λ count. ap (λ (k : Keys). replies (requests_of p.pieces) opening.keys ++ take count (text (does k words).reply)) p.keys in (
       rose_within sink0 sink sink' sink_later stop.0,
       inl (record {
         pieces = p.pieces;
@@ -79,14 +80,14 @@ stops_serving status.WriteFault store stream stream' bytes spelling words input 
         logged = logged_asked store store stream stream' bytes spelling words input left sent0 sent sent' files0 files files' p spells passes stop.1;
       }),
     )
-stops_serving end store stream stream' bytes spelling words input left sent0 sent sent' files0 files files' dir0 dir dir' source source' sink0 sink sink' p spells passes dir_later sink_later stop = absurd stop
+stops_serving {opening = opening} end store stream stream' bytes spelling words input left sent0 sent sent' files0 files files' dir0 dir dir' source source' sink0 sink sink' p spells passes dir_later sink_later stop = absurd stop
 
 -- a bad place came, and its error was sent, or not
-pub stops_refusing : (end : Status) (store : Keys) (stream : Stream) (bytes : ℕ) (kind : BadRequest) (offset at : ℕ) (input left sent0 sent sent' : Option (List ℕ)) (files0 files : Option Files) (dir dir' source source' sink0 sink sink' : ℕ)
-    (p : Progress store stream bytes (outside input left sent0 sent files0 files)) → BadAt stream.rest kind at → offset ≡ stream.passed + at → sink0 ≤ sink
+pub stops_refusing : {opening : Opening} (end : Status) (store : Keys) (stream : Stream) (bytes : ℕ) (kind : BadRequest) (offset at : ℕ) (input left sent0 sent sent' : Option (List ℕ)) (files0 files : Option Files) (dir dir' source source' sink0 sink sink' : ℕ)
+    (p : Progress store stream bytes (outside input left sent0 sent files0 files) opening) → BadAt stream.rest kind at → offset ≡ stream.passed + at → sink0 ≤ sink
     → RefuseEnds end kind offset (record { old = sent; new = sent'; faults_old = sink; faults_new = sink' })
-    → SourceStops end (outside input left sent0 sent' files0 files) dir dir' source source' sink0 sink'
-stops_refusing (status.Protocol kind' offset') store stream bytes kind offset at input left sent0 sent sent' files0 files dir dir' source source' sink0 sink sink' p bad place later end =
+    → SourceStops end (outside input left sent0 sent' files0 files) opening dir dir' source source' sink0 sink'
+stops_refusing {opening = opening} (status.Protocol kind' offset') store stream bytes kind offset at input left sent0 sent sent' files0 files dir dir' source source' sink0 sink sink' p bad place later end =
     record {
       pieces = p.pieces;
       beyond = stream.rest;
@@ -95,10 +96,10 @@ stops_refusing (status.Protocol kind' offset') store stream bytes kind offset at
       going = p.going;
       bad = subst (λ (k : BadRequest). BadAt stream.rest k at) (sym end.0) bad;
       place = end.1 ∙ place ∙ ap (λ (n : ℕ). n + at) p.passed;
-      sent = subst (λ (k : BadRequest). Appends sent0 sent' (replies (requests_of p.pieces) no_keys ++ text (bad_reply k))) (sym end.0) (Appends-trans sent0 sent sent' _ _ p.serves.sent end.2);
+      sent = subst (λ (k : BadRequest). Appends sent0 sent' (replies (requests_of p.pieces) opening.keys ++ text (bad_reply k))) (sym end.0) (Appends-trans sent0 sent sent' _ _ p.serves.sent end.2);
       logged = p.serves.logged;
     }
-stops_refusing status.WriteFault store stream bytes kind offset at input left sent0 sent sent' files0 files dir dir' source source' sink0 sink sink' p bad place later end = (
+stops_refusing {opening = opening} status.WriteFault store stream bytes kind offset at input left sent0 sent sent' files0 files dir dir' source source' sink0 sink sink' p bad place later end = (
   rose_within sink0 sink sink' later end.0,
   inr (record {
     pieces = p.pieces;
@@ -112,15 +113,15 @@ stops_refusing status.WriteFault store stream bytes kind offset at input left se
     logged = p.serves.logged;
   }),
 )
-stops_refusing status.Memory store stream bytes kind offset at input left sent0 sent sent' files0 files dir dir' source source' sink0 sink sink' p bad place later end =
+stops_refusing {opening = opening} status.Memory store stream bytes kind offset at input left sent0 sent sent' files0 files dir dir' source source' sink0 sink sink' p bad place later end =
     serves_some store stream bytes input left left sent0 sent sent' files0 files files p end refl
-stops_refusing end store stream bytes kind offset at input left sent0 sent sent' files0 files dir dir' source source' sink0 sink sink' p bad place later never = absurd never
+stops_refusing {opening = opening} end store stream bytes kind offset at input left sent0 sent sent' files0 files dir dir' source source' sink0 sink sink' p bad place later never = absurd never
 
 -- the next piece was not taken
-pub stops_taking : (end : Status) (store : Keys) (stream : Stream) (bytes : ℕ) (input left left' sent0 sent : Option (List ℕ)) (files0 files : Option Files) (dir dir' source0 source source' sink sink' : ℕ)
-    (p : Progress store stream bytes (outside input left sent0 sent files0 files)) → IsUnfinished stream.rest → source0 ≤ source → (end ≡ status.TooLong → bytes ≡ 2 ^ 40)
+pub stops_taking : {opening : Opening} (end : Status) (store : Keys) (stream : Stream) (bytes : ℕ) (input left left' sent0 sent : Option (List ℕ)) (files0 files : Option Files) (dir dir' source0 source source' sink sink' : ℕ)
+    (p : Progress store stream bytes (outside input left sent0 sent files0 files) opening) → IsUnfinished stream.rest → source0 ≤ source → (end ≡ status.TooLong → bytes ≡ 2 ^ 40)
     → TakeStops end (record { old = left; new = left'; faults_old = source; faults_new = source' })
-    → SourceStops end (outside input left' sent0 sent files0 files) dir dir' source0 source' sink sink'
+    → SourceStops end (outside input left' sent0 sent files0 files) opening dir dir' source0 source' sink sink'
 stops_taking status.Memory store stream bytes input left left' sent0 sent files0 files dir dir' source0 source source' sink sink' p begun later full stop =
     serves_some store stream bytes input left left' sent0 sent sent files0 files files p (Keeps-refl sent) refl
 stops_taking status.ReadFault store stream bytes input left left' sent0 sent files0 files dir dir' source0 source source' sink sink' p begun later full stop = (

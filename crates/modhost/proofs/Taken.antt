@@ -2,6 +2,7 @@
 use Rattle.std.proofs.Common.{ℕ, ◌+◌, ◌≤◌, ◌<◌, List, [], ◌∷◌, ◌++◌, length, Option, refl, ap, ◌∙◌, append_assoc, length-append, inl, inr, arith}
 use Rattle.std.specs.List.{concat}
 use Rattle.core_types.specs.Keys.{Keys}
+use Rattle.restart.specs.Restart.{Opening}
 use Rattle.core_types.specs.declared.bad_request.BadRequest.{BadRequest}
 use Rattle.resp_codec.specs.Spelling.{Spells}
 use Rattle.resp_codec.specs.Stream.{Stream, Passes, Takes, Waits, Refuses}
@@ -26,8 +27,8 @@ module _ (stream stream' : Stream) (words : List (List ℕ)) (t : Takes stream s
   pub behind : Passes at_request stream' t.bytes
   behind = record { rest = refl; passed = omega (arith, t.passes.passed, length-append (concat t.skipped) t.bytes) }
 
-  pub comes : (store : Keys) (bytes : ℕ) (input left sent0 sent : Option (List ℕ)) (files0 files : Option Files) → Progress store stream bytes (outside input left sent0 sent files0 files)
-      → Progress store at_request bytes (outside input left sent0 sent files0 files)
+  pub comes : {opening : Opening} (store : Keys) (bytes : ℕ) (input left sent0 sent : Option (List ℕ)) (files0 files : Option Files) → Progress store stream bytes (outside input left sent0 sent files0 files) opening
+      → Progress store at_request bytes (outside input left sent0 sent files0 files) opening
   comes store bytes input left sent0 sent files0 files p = skips_on store stream at_request bytes input left sent0 sent files0 files p t.skipped t.skips before
 
   -- less is left to read
@@ -35,13 +36,13 @@ module _ (stream stream' : Stream) (words : List (List ℕ)) (t : Takes stream s
   shorter = omega (arith, ap length t.passes.rest, length-append (concat t.skipped ++ t.bytes) stream'.rest, length-append (concat t.skipped) t.bytes, spelled_some t.bytes words t.spells)
 
 module _ (stream stream' : Stream) where
-  pub waits_on : Waits stream stream' → (store : Keys) (bytes : ℕ) (input left sent0 sent : Option (List ℕ)) (files0 files : Option Files) → Progress store stream bytes (outside input left sent0 sent files0 files)
-      → Progress store stream' bytes (outside input left sent0 sent files0 files)
+  pub waits_on : {opening : Opening} → Waits stream stream' → (store : Keys) (bytes : ℕ) (input left sent0 sent : Option (List ℕ)) (files0 files : Option Files) → Progress store stream bytes (outside input left sent0 sent files0 files) opening
+      → Progress store stream' bytes (outside input left sent0 sent files0 files) opening
   waits_on w store bytes input left sent0 sent files0 files p = skips_on store stream stream' bytes input left sent0 sent files0 files p w.skipped w.skips w.passes
 
   pub no_longer : Waits stream stream' → length stream'.rest ≤ length stream.rest
   no_longer w = omega (arith, ap length w.passes.rest, length-append (concat w.skipped) stream'.rest)
 
-  pub refused_at : (kind : BadRequest) (offset : ℕ) → Refuses stream stream' kind offset → (store : Keys) (bytes : ℕ) (input left sent0 sent : Option (List ℕ)) (files0 files : Option Files)
-      → Progress store stream bytes (outside input left sent0 sent files0 files) → Progress store stream' bytes (outside input left sent0 sent files0 files)
+  pub refused_at : {opening : Opening} (kind : BadRequest) (offset : ℕ) → Refuses stream stream' kind offset → (store : Keys) (bytes : ℕ) (input left sent0 sent : Option (List ℕ)) (files0 files : Option Files)
+      → Progress store stream bytes (outside input left sent0 sent files0 files) opening → Progress store stream' bytes (outside input left sent0 sent files0 files) opening
   refused_at kind offset r store bytes input left sent0 sent files0 files p = skips_on store stream stream' bytes input left sent0 sent files0 files p r.skipped r.skips r.passes

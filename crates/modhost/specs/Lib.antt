@@ -1,5 +1,6 @@
 pub mod Command
 pub mod Does
+pub mod Replay
 pub mod Run
 pub mod Words
 pub mod Status
@@ -7,4 +8,5 @@ pub mod Stops
 pub mod Pipe
 pub mod Serving
 pub mod Ending
+pub mod Again
 pub mod Outcome

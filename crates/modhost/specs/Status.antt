@@ -1,11 +1,12 @@
 -- How a run ends, as the status of the process.
 use Rattle.std.specs.Prelude.{ℕ}
 use Rattle.modhost.specs.declared.status.Status.{Status}
-use Rattle.modhost.specs.declared.status.Status.TheVariants.{Done, Usage, DirFault, ReadFault, WriteFault, Memory, Protocol, CutOff, TooLong, NotBuilt}
+use Rattle.modhost.specs.declared.status.Status.TheVariants.{Done, Usage, LogRefused, DirFault, ReadFault, WriteFault, Memory, Protocol, CutOff, TooLong, NotBuilt}
 
 abbrev pub code_of : Status → ℕ
 code_of Done = 0
 code_of (Usage place) = 1
+code_of (LogRefused file offset why) = 2
 code_of DirFault = 3
 code_of ReadFault = 4
 code_of WriteFault = 5

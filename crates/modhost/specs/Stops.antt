@@ -1,9 +1,11 @@
--- Which end of a run a refusal of the directory leads to.
-use Rattle.disk_model.specs.declared.dir.ReadAllStop.{ReadAllStop}
-use Rattle.disk_model.specs.declared.dir.ReadAllStop.TheVariants as stop
+-- Which end of a run a log that was not opened leads to.
+use Rattle.restart.specs.declared.opening.OpenStop.{OpenStop}
+use Rattle.restart.specs.declared.opening.OpenStop.TheVariants as stop
 use Rattle.modhost.specs.declared.status.Status.{Status}
-use Rattle.modhost.specs.declared.status.Status.TheVariants.{DirFault, Memory}
+use Rattle.modhost.specs.declared.status.Status.TheVariants.{LogRefused, DirFault, Memory, NotBuilt}
 
-abbrev pub status_of_read : ReadAllStop → Status
-status_of_read stop.Dir = DirFault
-status_of_read stop.Memory = Memory
+abbrev pub status_of_stop : OpenStop → Status
+status_of_stop (stop.LogRefused file offset why) = LogRefused file offset why
+status_of_stop stop.NotBuilt = NotBuilt 1
+status_of_stop stop.Dir = DirFault
+status_of_stop stop.Memory = Memory

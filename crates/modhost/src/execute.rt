@@ -139,8 +139,8 @@ fn del(alloc: Global, keys: &mut KeyStore, words: Vec<Blob>) -> Result<Outcome, 
     })
 }
 
-// Removes each of these keys, and counts those that were there.
-fn remove_each(keys: &mut KeyStore, names: &[Blob]) -> usize
+/// Removes each of these keys, and counts those that were there.
+pub(crate) fn remove_each(keys: &mut KeyStore, names: &[Blob]) -> usize
     ensures keys { keys.new ≡ without_all names.now keys.old }
     ensures none { result ≡ 0 → keys.new ≡ keys.old }
     ensures count { result ≡ key_count keys.old - key_count keys.new }

@@ -1,20 +1,18 @@
 //! The keys of a directory, and the log that keeps them.
 
-ghost use Rattle.std.specs.Prelude.{ℕ, ◌≡◌, ◌≤◌, ◌<◌, ◌++◌, [], length, take, is_some, IfSome, IfOk, IfErr, OnOk, OnErr};
+ghost use Rattle.std.specs.Prelude.{ℕ, ◌≡◌, ◌≤◌, ◌<◌, ◌++◌, length, take, IfErr, OnOk, OnErr};
 ghost use Rattle.core_types.specs.Causes.{HasCause};
-ghost use Rattle.core_types.specs.Keys.{no_keys};
 ghost use Rattle.resp_codec.specs.Spelling.{IsRequest};
 ghost use Rattle.resp_codec.specs.ReplyText.{text};
 ghost use Rattle.effect_log.specs.Unit.{unit};
-ghost use Rattle.disk_model.specs.Files.{file, with_file, with_appended, Become, Stay, IsThere};
+ghost use Rattle.disk_model.specs.Files.{with_appended, Become, IsThere};
 ghost use Rattle.modhost.specs.Does.{does};
-ghost use Rattle.modhost.specs.Pipe.{IsFresh};
-ghost use Rattle.modhost.specs.Serving.{OpenStops, ReadStops, LogStops};
+ghost use Rattle.modhost.specs.Serving.{LogStops};
 
 use crate::execute::execute;
 use crate::key_store::KeyStore;
 use crate::status::Status;
-use core_types::{Args, Blob, Effects};
+use core_types::{Args, Blob};
 use disk_model::{Dir, DirFault, FileName};
 use effect_log::unit_text;
 use resp_codec::write_reply;
@@ -26,32 +24,6 @@ pub struct Host<D: Dir> {
     pub dir: D,
     /// The keys.
     pub keys: KeyStore,
-}
-
-/// Begins a log in a directory that has neither a log nor a dump.
-pub fn open_log<D: Dir>(alloc: Global, dir: &mut D) -> Result<(), Status>
-    ensures fresh { OnOk result (IsFresh (D.files dir.old)) }
-    ensures empty { OnOk result (Become (with_file FileName.Log []) (D.files dir.old) (D.files dir.new)) }
-    ensures stop { IfErr result (λ status.
-        OpenStops status (D.faults dir.old) (D.faults dir.new) (D.files dir.old) (D.files dir.new)) }
-    ensures later { D.faults dir.old ≤ D.faults dir.new }
-{
-    if is_there(alloc, dir, FileName::Log)? || is_there(alloc, dir, FileName::Dump)? {
-        return Err(Status::NotBuilt(1));
-    }
-    dir.create(FileName::Log)?;
-    dir.sync_names()?;
-    Ok(())
-}
-
-// Whether a file is there.
-fn is_there<D: Dir>(alloc: Global, dir: &mut D, name: FileName) -> Result<bool, Status>
-    ensures there { IfOk result (λ there. IfSome (D.files dir.old) (λ known. there ≡ is_some (file name known))) }
-    ensures same { Stay (D.files dir.old) (D.files dir.new) }
-    ensures stop { IfErr result (λ status. ReadStops status (D.faults dir.old) (D.faults dir.new)) }
-    ensures later { D.faults dir.old ≤ D.faults dir.new }
-{
-    Ok(dir.read_all(alloc, name)?.is_some())
 }
 
 // Adds bytes to the log and makes them safe from a crash. Asks nothing of the directory where there are none.
@@ -71,17 +43,6 @@ fn append_synced<D: Dir>(dir: &mut D, bytes: &[u8]) -> Result<(), DirFault>
 }
 
 impl<D: Dir> Host<D> {
-    /// A host without keys, over a log that is empty.
-    pub fn new(alloc: Global, dir: D) -> Host<D>
-        ensures dir { result.dir ≡ dir }
-        ensures keys { result.keys ≡ no_keys }
-    {
-        Host {
-            dir,
-            keys: KeyStore::new(alloc),
-        }
-    }
-
     /// Serves a request: its unit is in the log before its reply is in `out`. After an `Err` the host is to be
     /// given up, since its keys may be ahead of its log.
     pub fn serve(&mut self, alloc: Global, words: Args, out: &mut Blob) -> Result<(), Status>

@@ -3,7 +3,6 @@
 ghost use Rattle.std.specs.Prelude.{ℕ, ◌≡◌, ◌≢◌, ◌+◌, ◌^◌, ◌<◌, ◌≤◌, [], length, take, Some, IfSome, IfOk, IfErr, OnOk, OnErr};
 ghost use Rattle.std.specs.Io.KnownBytes.{Appends, Consumes, IsAtEnd};
 ghost use Rattle.core_types.specs.Causes.{HasCause};
-ghost use Rattle.core_types.specs.Keys.{no_keys};
 ghost use Rattle.resp_codec.specs.Spelling.{IsRequest};
 ghost use Rattle.resp_codec.specs.ReplyText.{text};
 ghost use Rattle.resp_codec.specs.BadReply.{bad_reply};
@@ -12,7 +11,8 @@ ghost use Rattle.disk_model.specs.Files.{file, with_appended, Become, IsThere};
 ghost use Rattle.modhost.specs.Does.{does};
 ghost use Rattle.modhost.specs.Run.{quits};
 ghost use Rattle.modhost.specs.Pipe.{Outside, ServesAll};
-ghost use Rattle.modhost.specs.Serving.{ServeStops, SendStops, RefuseEnds, TakeStops, SourceStops, IsEmptyLog};
+ghost use Rattle.modhost.specs.Serving.{ServeStops, SendStops, RefuseEnds, TakeStops, SourceStops};
+ghost use Rattle.modhost.specs.Ending.{opening_at};
 
 use crate::host::Host;
 use crate::sink::{Sink, SinkFault};
@@ -29,7 +29,7 @@ pub const PIECE: usize = 16_384;
 /// How many bytes are read in one run, at the most.
 pub const MAX_INPUT: u64 = 1 << 40;
 
-/// Serves a source over an empty log, and sends each reply once its unit is in the log and synced.
+/// Serves a source over an open log, and sends each reply once its unit is in the log and synced.
 ///
 /// `Ok` is the end of the input, or QUIT. An `Err` says what stopped it: a fault of the directory, the source
 /// or the sink, want of memory, more than 2^40 bytes, a bad request (whose error is sent), or an end within
@@ -40,8 +40,7 @@ pub fn serve_source<D: Dir, S: Source, K: Sink>(
     source: &mut S,
     sink: &mut K,
 ) -> Result<(), Status>
-    requires keys { host.old.keys ≡ no_keys }
-    requires log { IsEmptyLog (D.files host.old.dir) }
+    requires log { IsThere FileName.Log (D.files host.old.dir) }
     ensures all { OnOk result (ServesAll (record {
       input = S.left source.old;
       left = S.left source.new;
@@ -49,7 +48,7 @@ pub fn serve_source<D: Dir, S: Source, K: Sink>(
       sent = K.got sink.new;
       files_before = D.files host.old.dir;
       files = D.files host.new.dir;
-    })) }
+    }) (opening_at (D.files host.old.dir) host.old.keys)) }
     ensures stop { IfErr result (λ status. SourceStops status (record {
       input = S.left source.old;
       left = S.left source.new;
@@ -57,7 +56,7 @@ pub fn serve_source<D: Dir, S: Source, K: Sink>(
       sent = K.got sink.new;
       files_before = D.files host.old.dir;
       files = D.files host.new.dir;
-    })
+    }) (opening_at (D.files host.old.dir) host.old.keys)
         (D.faults host.old.dir) (D.faults host.new.dir) (S.faults source.old) (S.faults source.new) (K.faults sink.old) (K.faults sink.new)) }
 {
     let mut reader = Reader::new(alloc);

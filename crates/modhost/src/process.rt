@@ -13,8 +13,8 @@ use std::{env, io};
 const HELP: &str = "\
 modhost: a keyspace server in the manner of Redis
 
-    modhost pipe DIR    serve the requests of standard input (RESP2) over a new append-only log in
-                        the folder DIR; replies go to standard output
+    modhost pipe DIR    serve the requests of standard input (RESP2) over the append-only log in the
+                        folder DIR, which is begun where there is none; replies go to standard output
     modhost --help      print this
     modhost --version   print the version
 ";

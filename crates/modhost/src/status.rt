@@ -2,13 +2,15 @@
 
 ghost use Rattle.std.specs.Prelude.{◌≡◌};
 ghost use Rattle.modhost.specs.Status.{code_of};
-ghost use Rattle.modhost.specs.Stops.{status_of_read};
+ghost use Rattle.modhost.specs.Stops.{status_of_stop};
 ghost use Rattle.modhost.specs.declared.status.Status.TheVariants as status;
 
 use crate::sink::SinkFault;
 use crate::source::SourceFault;
 use core_types::{BadRequest, NoMemory};
-use disk_model::{DirFault, ReadAllStop};
+use disk_model::{DirFault, FileName};
+use effect_log::Reason;
+use restart::OpenStop;
 use std::alloc::AllocError;
 use std::fmt;
 
@@ -20,6 +22,15 @@ pub enum Status {
     /// The words are of no form: the place of the first that none allows, counted from 0, or their number
     /// where one is missing.
     Usage(u32),
+    /// The file is no log: the offset of its first fault, and the reason.
+    LogRefused {
+        /// The file that is refused.
+        file: FileName,
+        /// The offset of the byte that shows it.
+        offset: u64,
+        /// Why.
+        reason: Reason,
+    },
     /// The directory failed.
     DirFault,
     /// The source failed.
@@ -34,7 +45,7 @@ pub enum Status {
     CutOff(u64),
     /// The input goes on after 2^40 bytes.
     TooLong,
-    /// What was met is not served yet: 1 for a directory with a log or a dump.
+    /// What was met is not served yet: 1 for a directory with a dump and no log.
     NotBuilt(u8),
 }
 
@@ -45,6 +56,7 @@ pub fn status_code(status: &Status) -> u8
     match status {
         Status::Done => 0,
         Status::Usage(_) => 1,
+        Status::LogRefused { .. } => 2,
         Status::DirFault => 3,
         Status::ReadFault => 4,
         Status::WriteFault => 5,
@@ -62,6 +74,9 @@ impl fmt::Display for Status {
         match self {
             Status::Done => write!(f, "done"),
             Status::Usage(place) => write!(f, "usage at word {place}"),
+            Status::LogRefused { file, offset, .. } => {
+                write!(f, "log refused: {} at {offset}", file.as_str())
+            }
             Status::DirFault => write!(f, "directory fault"),
             Status::ReadFault => write!(f, "read fault"),
             Status::WriteFault => write!(f, "write fault"),
@@ -116,13 +131,23 @@ impl From<DirFault> for Status {
     }
 }
 
-impl From<ReadAllStop> for Status {
-    ghost from_gives = { λ stop end. end ≡ status_of_read stop };
+impl From<OpenStop> for Status {
+    ghost from_gives = { λ stop end. end ≡ status_of_stop stop };
 
-    fn from(stop: ReadAllStop) -> Status {
+    fn from(stop: OpenStop) -> Status {
         match stop {
-            ReadAllStop::Dir => Status::DirFault,
-            ReadAllStop::Memory => Status::Memory,
+            OpenStop::LogRefused {
+                file,
+                offset,
+                reason,
+            } => Status::LogRefused {
+                file,
+                offset,
+                reason,
+            },
+            OpenStop::NotBuilt => Status::NotBuilt(1),
+            OpenStop::Dir => Status::DirFault,
+            OpenStop::Memory => Status::Memory,
         }
     }
 }

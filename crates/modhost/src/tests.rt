@@ -1,3 +1,4 @@
+use crate::again::run_again;
 use crate::memory::{MemorySink, MemorySource};
 use crate::sink::{RealSink, Sink};
 use crate::source::{RealSource, Source};
@@ -5,6 +6,7 @@ use crate::status::{Status, status_code};
 use crate::top::modhost;
 use core_types::{BadRequest, NoMemory};
 use disk_model::{FileName, MemoryDir};
+use effect_log::Reason;
 use std::alloc::Global;
 use std::process::Abort;
 use std::test::Fail;
@@ -252,25 +254,112 @@ fn the_input_stops(rt: HostRuntime) -> Result<(), Fail> {
     Ok(())
 }
 
-// A directory with a log or a dump is left as it is.
+// A run over a log of these bytes, with this input.
+fn over_log(alloc: Global, log: &[u8], input: &[u8]) -> Result<Run, NoMemory> {
+    let dir = MemoryDir::new(alloc, &[])?.with_file(FileName::Log, log)?;
+    pipe_over(alloc, dir, input, &[], &[])
+}
+
+// A log that is refused, with its first fault, is left as it is.
 #[test]
-fn something_is_there(rt: HostRuntime) -> Result<(), Fail> {
+fn a_log_is_refused(rt: HostRuntime) -> Result<(), Fail> {
     let alloc = rt.alloc();
-    let log = MemoryDir::new(alloc, &[])?.with_file(FileName::Log, b"old")?;
-    expect(
-        &rt,
-        &pipe_over(alloc, log, SET, &[], &[])?,
-        Status::NotBuilt(1),
-        b"",
-        Some(b"old"),
-    );
+    let table: [(&[u8], u64, Reason); 7] = [
+        (b"RED", 0, Reason::NotMultibulk),
+        (b"*1\r\n$4\r\nEXEC\r\n", 0, Reason::LoneExec),
+        (
+            b"*1\r\n$5\r\nMULTI\r\n*1\r\n$5\r\nMULTI\r\n",
+            15,
+            Reason::NestedMulti,
+        ),
+        (PING, 0, Reason::NotAnEffect),
+        (b"*1\r\n$4\r\nNOPE\r\n", 0, Reason::NotAnEffect),
+        (
+            b"*2\r\n$3\r\nDEL\r\n$1\r\na\r\n*1\r\n$3\r\ndel\r\n",
+            20,
+            Reason::EffectRefused,
+        ),
+        (
+            b"*1\r\n$4\r\nPING\n",
+            12,
+            Reason::Request(BadRequest::NoLineEnd),
+        ),
+    ];
+    for (log, offset, reason) in table {
+        let status = Status::LogRefused {
+            file: FileName::Log,
+            offset,
+            reason,
+        };
+        expect(&rt, &over_log(alloc, log, PING)?, status, b"", Some(log));
+    }
+    Ok(())
+}
+
+const UNITS: &[u8] = b"*3\r\n$3\r\nSET\r\n$1\r\nb\r\n$1\r\n2\r\n*1\r\n$5\r\nMULTI\r\n\
+    *3\r\n$3\r\nSET\r\n$1\r\na\r\n$1\r\n1\r\n*2\r\n$3\r\nDEL\r\n$1\r\nb\r\n*1\r\n$4\r\nEXEC\r\n";
+
+// A log of a SET, and of a SET and a DEL in one unit, cut at each of its lengths: the units that are whole are
+// kept, and nothing else.
+#[test]
+fn a_torn_log_is_cut(rt: HostRuntime) -> Result<(), Fail> {
+    let alloc = rt.alloc();
+    for length in 0..=UNITS.len() {
+        let (kept, replies): (usize, &[u8]) = match length {
+            0..27 => (0, b"$-1\r\n$-1\r\n"),
+            27..103 => (27, b"$-1\r\n$1\r\n2\r\n"),
+            _ => (103, b"$1\r\n1\r\n$-1\r\n"),
+        };
+        let run = over_log(alloc, &UNITS[..length], b"GET a\nGET b\n")?;
+        expect(&rt, &run, Status::Done, replies, Some(&UNITS[..kept]));
+    }
+    Ok(())
+}
+
+// Each call of opening a torn log fails in turn.
+#[test]
+fn opening_fails(rt: HostRuntime) -> Result<(), Fail> {
+    let alloc = rt.alloc();
+    for (call, kept) in [(1, 29), (2, 29), (3, 29), (4, 27), (5, 27)] {
+        let dir = MemoryDir::new(alloc, &[call])?.with_file(FileName::Log, &UNITS[..29])?;
+        let run = pipe_over(alloc, dir, PING, &[], &[])?;
+        expect(&rt, &run, Status::DirFault, b"", Some(&UNITS[..kept]));
+    }
+    Ok(())
+}
+
+// A dump alone is left as it is.
+#[test]
+fn a_dump_is_there(rt: HostRuntime) -> Result<(), Fail> {
+    let alloc = rt.alloc();
     let dump = MemoryDir::new(alloc, &[])?.with_file(FileName::Dump, b"old")?;
-    expect(
-        &rt,
-        &pipe_over(alloc, dump, SET, &[], &[])?,
-        Status::NotBuilt(1),
-        b"",
-        None,
+    let run = pipe_over(alloc, dump, SET, &[], &[])?;
+    expect(&rt, &run, Status::NotBuilt(1), b"", None);
+    Ok(())
+}
+
+// A second run serves from the keys that the first left.
+#[test]
+fn a_run_goes_on(rt: HostRuntime) -> Result<(), Fail> {
+    let alloc = rt.alloc();
+    let mut input = MemorySource::new(alloc, SET, &[])?;
+    let mut sink = MemorySink::new(alloc, &[])?;
+    let mut input_again = MemorySource::new(alloc, b"GET a\nDEL a\nGET a\n", &[])?;
+    let mut sink_again = MemorySink::new(alloc, &[])?;
+    let dir = MemoryDir::new(alloc, &[])?;
+    let ended = run_again(
+        alloc,
+        dir,
+        &mut input,
+        &mut sink,
+        &mut input_again,
+        &mut sink_again,
+    );
+    assert_eq!(rt; ended.first, Status::Done);
+    assert_eq!(rt; ended.second, Status::Done);
+    assert_eq!(rt;
+        sink_again.content(),
+        b"$1\r\n1\r\n:1\r\n$-1\r\n".as_slice()
     );
     Ok(())
 }
@@ -304,6 +393,15 @@ fn ends_are_told(rt: HostRuntime) -> Result<(), Fail> {
     let table = [
         (Status::Done, 0, "done"),
         (Status::Usage(2), 1, "usage at word 2"),
+        (
+            Status::LogRefused {
+                file: FileName::Log,
+                offset: 15,
+                reason: Reason::NestedMulti,
+            },
+            2,
+            "log refused: appendonly.aof at 15",
+        ),
         (Status::DirFault, 3, "directory fault"),
         (Status::ReadFault, 4, "read fault"),
         (Status::WriteFault, 5, "write fault"),

@@ -1,21 +1,25 @@
 //! The top call: all that the program does, over any directory, source and sink.
 
-ghost use Rattle.std.specs.Prelude.{ℕ, ◌≡◌, ◌⊎◌, ◌↔◌, Some, map};
+ghost use Rattle.std.specs.Prelude.{ℕ, ◌≡◌, ◌⊎◌, ◌↔◌, Some, IfSome, map};
 ghost use Rattle.core_types.specs.Causes.{Rose};
-ghost use Rattle.core_types.specs.Keys.{no_keys};
 ghost use Rattle.core_types.specs.declared.bad_request.BadRequest.{BadRequest};
+ghost use Rattle.disk_model.specs.declared.file_name.FileName.{FileName};
+ghost use Rattle.disk_model.specs.Files.{IsThere};
+ghost use Rattle.effect_log.specs.declared.reason.Reason.{Reason};
+ghost use Rattle.restart.specs.Restart.{HasDumpAlone};
 ghost use Rattle.modhost.specs.Words.{usage_fault};
-ghost use Rattle.modhost.specs.Pipe.{IsFresh, IsTaken, IsUntouched, ServesSome, ServesAll, CutsOff, Refuses, SendsPart, SendsPartOfError, LogsPart, OpensNot, StopsReading, StopsAtLimit};
-ghost use Rattle.modhost.specs.Ending.{outside, PipeEnds, ServeEnds};
-ghost use Rattle.modhost.specs.Serving.{IsEmptyLog};
+ghost use Rattle.modhost.specs.Pipe.{IsUntouched, IsRefused, OpensNot};
+ghost use Rattle.modhost.specs.Ending.{outside, opening_at, PipeServesAll, PipeRefuses, PipeCutsOff, PipeStopsReading, PipeStopsAtLimit, PipeServesSome, PipeLogsPart, PipeSendsPart, PipeEnds, ServeEnds};
 
-use crate::host::{Host, open_log};
+use crate::host::Host;
+use crate::key_store::KeyStore;
 use crate::pipe::serve_source;
 use crate::sink::Sink;
 use crate::source::Source;
 use crate::status::Status;
 use crate::words::{Job, WordsFault, read_words};
 use disk_model::Dir;
+use restart::open_log;
 use std::alloc::Global;
 
 /// The end of a run, and the directory that was handed in.
@@ -27,8 +31,8 @@ pub struct Ended<D: Dir> {
     pub dir: D,
 }
 
-/// Does what the words ask for. `pipe DIR` serves the requests of the source in order, over a new log in the
-/// directory: each change is in the log and synced before its reply is given to the sink.
+/// Does what the words ask for. `pipe DIR` opens the log of the directory, replays it, and serves the requests
+/// of the source in order: each change is in the log and synced before its reply is given to the sink.
 pub fn modhost<D: Dir, S: Source, K: Sink>(
     alloc: Global,
     words: &[&str],
@@ -42,20 +46,23 @@ pub fn modhost<D: Dir, S: Source, K: Sink>(
     ensures usage_untouched { (place : ℕ) → result.status ≡ Status.Usage place → IsUntouched
         (outside (S.left source.old) (S.left source.new) (K.got sink.old) (K.got sink.new) (D.files dir) (D.files result.dir)) }
 
-    // All requests were served, to the end of the input or to QUIT: the sink got exactly their replies, and the log is their units.
-    ensures done { result.status ≡ Status.Done → IsFresh (D.files dir) × ServesAll
+    // All requests were served, to the end of the input or to QUIT, from the keys that the directory stood for: the sink
+    // got exactly their replies, the log goes on with their units, and the directory stands for the keys that they left.
+    ensures done { result.status ≡ Status.Done → PipeServesAll
         (outside (S.left source.old) (S.left source.new) (K.got sink.old) (K.got sink.new) (D.files dir) (D.files result.dir)) }
 
-    // A log or a dump is there already, and nothing is touched.
-    ensures taken { result.status ≡ Status.NotBuilt 1 → IsTaken (D.files dir) × IsUntouched
+    // The log is refused, with its first fault, and nothing is touched.
+    ensures log_refused { (file : FileName) (offset : ℕ) (why : Reason) → result.status ≡ Status.LogRefused file offset why → IsRefused
+        (outside (S.left source.old) (S.left source.new) (K.got sink.old) (K.got sink.new) (D.files dir) (D.files result.dir)) file offset why }
+    // There is no log, and a dump is there. Nothing is touched.
+    ensures not_built { (what : ℕ) → result.status ≡ Status.NotBuilt what → (what ≡ 1) × IfSome (D.files dir) HasDumpAlone × IsUntouched
         (outside (S.left source.old) (S.left source.new) (K.got sink.old) (K.got sink.new) (D.files dir) (D.files result.dir)) }
-    ensures not_built { (what : ℕ) → result.status ≡ Status.NotBuilt what → what ≡ 1 }
 
     // The input goes on with a bad place: all before it was served, and its error was sent.
-    ensures protocol { (kind : BadRequest) (offset : ℕ) → result.status ≡ Status.Protocol kind offset → IsFresh (D.files dir) × Refuses
+    ensures protocol { (kind : BadRequest) (offset : ℕ) → result.status ≡ Status.Protocol kind offset → PipeRefuses
         (outside (S.left source.old) (S.left source.new) (K.got sink.old) (K.got sink.new) (D.files dir) (D.files result.dir)) kind offset }
     // The input ended within a request, and all before that was served.
-    ensures cut_off { (count : ℕ) → result.status ≡ Status.CutOff count → IsFresh (D.files dir) × CutsOff
+    ensures cut_off { (count : ℕ) → result.status ≡ Status.CutOff count → PipeCutsOff
         (outside (S.left source.old) (S.left source.new) (K.got sink.old) (K.got sink.new) (D.files dir) (D.files result.dir)) count }
 
     // A fault comes only where its object counted one.
@@ -66,24 +73,22 @@ pub fn modhost<D: Dir, S: Source, K: Sink>(
     // Opening failed, or some requests were served and of the next one's unit a front is in the log.
     ensures dir_fault_leaves { result.status ≡ Status.DirFault → OpensNot
         (outside (S.left source.old) (S.left source.new) (K.got sink.old) (K.got sink.new) (D.files dir) (D.files result.dir))
-        ⊎ (IsFresh (D.files dir) × LogsPart
-        (outside (S.left source.old) (S.left source.new) (K.got sink.old) (K.got sink.new) (D.files dir) (D.files result.dir))) }
+        ⊎ PipeLogsPart
+        (outside (S.left source.old) (S.left source.new) (K.got sink.old) (K.got sink.new) (D.files dir) (D.files result.dir)) }
     // Some requests were served, and of the last reply, or of the error of a bad request, only a front was sent.
-    ensures write_fault_leaves { result.status ≡ Status.WriteFault → IsFresh (D.files dir) × (SendsPart
-        (outside (S.left source.old) (S.left source.new) (K.got sink.old) (K.got sink.new) (D.files dir) (D.files result.dir))
-        ⊎ SendsPartOfError
-        (outside (S.left source.old) (S.left source.new) (K.got sink.old) (K.got sink.new) (D.files dir) (D.files result.dir))) }
+    ensures write_fault_leaves { result.status ≡ Status.WriteFault → PipeSendsPart
+        (outside (S.left source.old) (S.left source.new) (K.got sink.old) (K.got sink.new) (D.files dir) (D.files result.dir)) }
     // All that was taken was served, and more was wanted where the source failed.
-    ensures read_fault_leaves { result.status ≡ Status.ReadFault → IsFresh (D.files dir) × StopsReading
+    ensures read_fault_leaves { result.status ≡ Status.ReadFault → PipeStopsReading
         (outside (S.left source.old) (S.left source.new) (K.got sink.old) (K.got sink.new) (D.files dir) (D.files result.dir)) }
     // 2^40 bytes were taken and served, more were wanted, and more came.
-    ensures too_long { result.status ≡ Status.TooLong → IsFresh (D.files dir) × StopsAtLimit
+    ensures too_long { result.status ≡ Status.TooLong → PipeStopsAtLimit
         (outside (S.left source.old) (S.left source.new) (K.got sink.old) (K.got sink.new) (D.files dir) (D.files result.dir)) }
     // Nothing was touched, or some requests were served.
     ensures memory_leaves { result.status ≡ Status.Memory → IsUntouched
         (outside (S.left source.old) (S.left source.new) (K.got sink.old) (K.got sink.new) (D.files dir) (D.files result.dir))
-        ⊎ (IsFresh (D.files dir) × ServesSome
-        (outside (S.left source.old) (S.left source.new) (K.got sink.old) (K.got sink.new) (D.files dir) (D.files result.dir))) }
+        ⊎ PipeServesSome
+        (outside (S.left source.old) (S.left source.new) (K.got sink.old) (K.got sink.new) (D.files dir) (D.files result.dir)) }
 {
     match read_words(words) {
         Ok(Job::Pipe) => pipe(alloc, dir, source, sink),
@@ -94,7 +99,7 @@ pub fn modhost<D: Dir, S: Source, K: Sink>(
     }
 }
 
-// Serves the source over a new log in the directory.
+// Serves the source over the log of the directory.
 fn pipe<D: Dir, S: Source, K: Sink>(
     alloc: Global,
     mut dir: D,
@@ -105,9 +110,13 @@ fn pipe<D: Dir, S: Source, K: Sink>(
         (outside (S.left source.old) (S.left source.new) (K.got sink.old) (K.got sink.new) (D.files dir) (D.files result.dir))
         (D.faults dir) (D.faults result.dir) (S.faults source.old) (S.faults source.new) (K.faults sink.old) (K.faults sink.new) }
 {
-    match open_log(alloc, &mut dir) {
-        Err(status) => Ended { status, dir },
-        Ok(()) => serve(alloc, Host::new(alloc, dir), source, sink),
+    let mut keys = KeyStore::new(alloc);
+    match open_log(alloc, &mut dir, &mut keys) {
+        Ok(_) => serve(alloc, Host { dir, keys }, source, sink),
+        Err(stop) => Ended {
+            status: Status::from(stop),
+            dir,
+        },
     }
 }
 
@@ -118,10 +127,10 @@ fn serve<D: Dir, S: Source, K: Sink>(
     source: &mut S,
     sink: &mut K,
 ) -> Ended<D>
-    requires keys { host.keys ≡ no_keys }
-    requires log { IsEmptyLog (D.files host.dir) }
+    requires log { IsThere FileName.Log (D.files host.dir) }
     ensures { ServeEnds result.status
         (outside (S.left source.old) (S.left source.new) (K.got sink.old) (K.got sink.new) (D.files host.dir) (D.files result.dir))
+        (opening_at (D.files host.dir) host.keys)
         (D.faults host.dir) (D.faults result.dir) (S.faults source.old) (S.faults source.new) (K.faults sink.old) (K.faults sink.new) }
 {
     let served = serve_source(alloc, &mut host, source, sink);

@@ -3,7 +3,7 @@ use Rattle.std.specs.Io.KnownBytes.{Consumes}
 use Rattle.std.proofs.KnownBytes.{Keeps-refl}
 use Rattle.std.proofs.lemmas.List.{length-take-le}
 use Rattle.std.proofs.lemmas.Result.{err_from_is_err_and, on_ok_weaker, IfErr-weaker}
-use Rattle.modhost.proofs.Fed.{starts, fed_more}
+use Rattle.modhost.proofs.Fed.{told_log, starts, fed_more}
 use Rattle.modhost.proofs.Served.{Serving, quits_now, goes_on}
 use Rattle.modhost.proofs.Taken.{behind, comes, shorter, waits_on, refused_at}
 use Rattle.modhost.proofs.Stopped.{serves_some, stops_serving, stops_refusing, stops_taking}
@@ -12,7 +12,7 @@ use Rattle.modhost.proofs.pipe.serve_source.Goals as goal
 
 pub serving-init : goal.serving-init
 serving-init g c = record {
-  progress = starts _ _ _ _ _ c.requires.keys c.new-reader.ensures.passed c.new-reader.ensures.rest c.requires.log;
+  progress = starts _ _ _ _ _ refl c.new-reader.ensures.passed c.new-reader.ensures.rest (told_log _ c.requires.log);
   dir = omega arith;
   source = omega arith;
   sink = omega arith;

@@ -1,5 +1,6 @@
 use Rattle.std.proofs.Common.{◌+◌, ◌-◌, ◌*◌, ◌^◌, ◌≤◌, length}
 use Rattle.modhost.specs.Serving.{Progress}
+use Rattle.modhost.specs.Ending.{opening_at}
 use Rattle.modhost.proofs.pipe.serve_source.Given as goal
 
 abbrev pub invariant-serving : goal.invariant-serving
@@ -15,7 +16,7 @@ invariant-serving g l =
         sent = got l.sink;
         files_before = files l.fn.host.dir;
         files = files l.host.dir;
-      });
+      }) (opening_at (files l.fn.host.dir) l.fn.host.keys);
       dir : g.D.Dir.faults l.fn.host.dir ≤ g.D.Dir.faults l.host.dir;
       source : g.S.Source.faults l.fn.source ≤ g.S.Source.faults l.source;
       sink : g.K.Sink.faults l.fn.sink ≤ g.K.Sink.faults l.sink;

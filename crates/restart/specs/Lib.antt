@@ -1,0 +1,3 @@
+pub mod Restart
+pub mod Replaying
+pub mod Progress
