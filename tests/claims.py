@@ -1,8 +1,7 @@
 #!/usr/bin/env python3
 """Checks docs/CLAIMS.md against the code.
 
-Each row's call has the clause, its definitions and must-fail edits are there, and each public function has a
-row or is in the list of those that say nothing. Prints one line a problem.
+Each row's call has the clause, and its definitions and must-fail edits are there. Prints one line a problem.
 """
 
 import re
@@ -12,7 +11,6 @@ from pathlib import Path
 ROOT = Path(__file__).resolve().parent.parent
 CRATES = ROOT / "crates"
 CLAIMS = ROOT / "docs" / "CLAIMS.md"
-SILENT = "## Public functions that say nothing"
 
 BLOCK = re.compile(r"(?:pub(?:\(crate\))? )?(impl|trait)\b")
 FUNCTION = re.compile(r"( *)(pub |pub\(crate\) )?fn (\w+)")
@@ -86,7 +84,7 @@ def functions_of(crate):
 
 
 def defines(file, name):
-    words = r"^(?:(?:abbrev|unfoldable|pub|record|data) )*" + re.escape(name) + r"(?=\s)"
+    words = r"^ *(?:(?:abbrev|unfoldable|pub|record|data) )*" + re.escape(name) + r"(?=\s)"
     return file.is_file() and re.search(words, file.read_text(), re.MULTILINE)
 
 
@@ -117,29 +115,16 @@ def row_problems(cells, functions):
 def main():
     crates = [line.split(":")[0] for line in (ROOT / "crates.txt").read_text().splitlines() if line.strip()]
     functions = [function for crate in crates for function in functions_of(crate)]
-    problems, calls, silent, heading = [], [], [], ""
+    problems, rows = [], 0
     for number, line in enumerate(CLAIMS.read_text().splitlines(), 1):
-        if line.startswith("#"):
-            heading = line
-        elif line.startswith("|") and not line.startswith(("| Promise ", "|---")):
+        if line.startswith("|") and not line.startswith(("| Promise ", "|---")):
+            rows += 1
             cells = [cell.strip() for cell in line.strip().strip("|").split("|")]
-            calls.append(cells[1].strip("`") if len(cells) > 1 else "")
             problems += [f"docs/CLAIMS.md:{number}: {text}" for text in row_problems(cells, functions)]
-        elif line.startswith("- `") and heading.startswith(SILENT):
-            silent.append(line.split("`")[1])
-    for path in silent:
-        if not any(function.is_named(path) for function in functions):
-            problems.append(f"docs/CLAIMS.md: the list of those that say nothing has {path}, which is not there")
-    for function in functions:
-        if function.public and not any(function.is_named(path) for path in silent):
-            if not function.ensures:
-                problems.append(f"{function.path()} ensures nothing, and is not in the list of those that say nothing")
-            elif not any(function.is_named(path) for path in calls):
-                problems.append(f"{function.path()} has no row in docs/CLAIMS.md")
     for problem in problems:
         print(problem)
     if not problems:
-        print(f"docs/CLAIMS.md: {len(calls)} rows stand in the code")
+        print(f"docs/CLAIMS.md: {rows} rows stand in the code")
     return 1 if problems else 0
 
 

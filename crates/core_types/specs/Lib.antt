@@ -4,3 +4,12 @@ pub mod Parts
 pub mod Keys
 pub mod Causes
 pub mod BadRequest
+pub mod Refusals
+pub mod Done
+pub mod Cutting
+pub mod Equal
+pub mod Fields
+pub mod HashEntries
+pub mod CommandRow
+pub mod Keyspace
+pub mod KeyLaws

@@ -1,10 +1,13 @@
 //! A byte string of any bytes, seen as its list of bytes.
 
-ghost use Rattle.std.specs.Prelude.{◌≡◌, ◌==◌, ◌≤◌, ◌++◌, List, ℕ, [], ◌∷◌, length, slice_get, take, IfOk, OnOk, OnErr};
+ghost use Rattle.std.specs.Prelude.{◌≡◌, ◌==◌, ◌+◌, ◌-◌, ◌≤◌, ◌++◌, List, ℕ, [], ◌∷◌, length, slice_get, take, drop, replicate, IfOk, OnOk, OnErr};
 
 use crate::NoMemory;
 use std::alloc::Global;
 use std::marker::Model;
+
+// From this many bytes on, memory is taken for what is asked, and not for as much again.
+const LARGE: usize = 65_536;
 
 /// A byte string: a key, a value, a word of a request or a text to be sent.
 #[derive(Debug, Drop)]
@@ -105,10 +108,65 @@ impl Blob {
         Ok(())
     }
 
+    /// Takes memory for so many bytes more, so that adding them takes none. What is longer than 64 KiB gets
+    /// just what it needs.
+    pub fn reserve(&mut self, more: usize) -> Result<(), NoMemory>
+        ensures same { self.new ≡ self.old }
+    {
+        if more > LARGE {
+            self.bytes.reserve_exact(more)?;
+        } else {
+            self.bytes.reserve(more)?;
+        }
+        Ok(())
+    }
+
+    /// Adds zero bytes at the end, up to this length. What is that long already stays.
+    pub fn grow(&mut self, size: usize) -> Result<(), NoMemory>
+        ensures ok { OnOk result (self.new ≡ self.old ++ replicate (size - length self.old) 0) }
+        ensures err { OnErr result (self.new ≡ self.old) }
+    {
+        if size > self.bytes.len() {
+            self.bytes.resize(size, 0)?;
+        }
+        Ok(())
+    }
+
+    /// Writes bytes over those that stand from `place` on. Takes no memory.
+    pub fn overwrite(&mut self, place: usize, bytes: &[u8])
+        requires { place + length bytes.now ≤ length self.old }
+        ensures written { self.new ≡ take place self.old ++ bytes.now ++ drop (place + length bytes.now) self.old }
+    {
+        write_over(&mut self.bytes, place, bytes);
+    }
+
+    /// Takes these bytes in place of its own.
+    pub fn assign(&mut self, bytes: &[u8]) -> Result<(), NoMemory>
+        ensures ok { OnOk result (self.new ≡ bytes.now) }
+        ensures err { OnErr result (self.new ≡ self.old) }
+    {
+        self.bytes
+            .reserve(bytes.len().saturating_sub(self.bytes.len()))?;
+        self.bytes.clear();
+        self.bytes.extend_from_slice(bytes)?;
+        Ok(())
+    }
+
     /// Drops what stands from `length` on. Keeps its memory for later use.
     pub fn truncate(&mut self, length: usize)
         ensures front { self.new ≡ take length self.old }
     {
         self.bytes.truncate(length);
     }
+}
+
+// Writes bytes over those that stand from `place` on.
+fn write_over(bytes: &mut [u8], place: usize, piece: &[u8])
+    requires { place + length piece.now ≤ length bytes.old }
+    ensures { bytes.new ≡ take place bytes.old ++ piece.now ++ drop (place + length piece.now) bytes.old }
+{
+    let whole = bytes.len();
+    prove!(place <= whole);
+    let end = place + piece.len();
+    bytes[place..end].copy_from_slice(piece);
 }

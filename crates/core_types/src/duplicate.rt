@@ -2,7 +2,7 @@
 
 ghost use Rattle.std.specs.Prelude.{◌≡◌, IfOk};
 
-use crate::{Blob, Effect, NoMemory};
+use crate::{Blob, NoMemory};
 use std::alloc::Global;
 
 /// A value of which a second one can be made, the same to all that contracts see.
@@ -17,13 +17,5 @@ pub trait Duplicate {
 impl Duplicate for Blob {
     fn duplicate(&self, alloc: Global) -> Result<Blob, NoMemory> {
         self.copy(alloc)
-    }
-}
-
-impl Duplicate for Effect {
-    fn duplicate(&self, alloc: Global) -> Result<Effect, NoMemory> {
-        Ok(Effect {
-            words: self.words.copy(alloc)?,
-        })
     }
 }

@@ -1,9 +1,27 @@
-//! What a command changed, as words that do it again.
+//! Words: of a command, of a change to be done again, and of a module's answer to a note.
 
-use crate::{Blob, Sequence};
+ghost use Rattle.std.specs.Prelude.{◌≡◌, ◌<◌, [], ◌∷◌, length, IfOk};
+ghost use Rattle.core_types.specs.Done.{own_words, word};
+
+use crate::{Blob, Duplicate, NoMemory, Sequence};
+use std::alloc::Global;
 
 /// The words of one request: the name of a command and its arguments.
 pub type Args = Sequence<Blob>;
+
+impl Sequence<Blob> {
+    /// The word at a place, counted from 0.
+    #[tactic(auto, unfolding(crate::specs::Done::word))]
+    pub fn word(&self, place: usize) -> &[u8]
+        requires { place < length self.now }
+        ensures word { result.now ≡ word place self.now }
+    {
+        self.as_slice()[place].as_slice()
+    }
+}
+
+/// The words of commands, in order.
+pub type Commands = Sequence<Args>;
 
 /// One change of the keys, as the words of a command that makes it.
 #[derive(Debug, Drop)]
@@ -12,5 +30,61 @@ pub struct Effect {
     pub words: Args,
 }
 
+impl Effect {
+    /// The words of a command, with this name in place of the first.
+    pub fn own_words(alloc: Global, name: &[u8], words: &Args) -> Result<Effect, NoMemory>
+        requires { 0 < length words.now }
+        ensures words { IfOk result (λ effect. effect ≡ own_words name.now words.now) }
+    {
+        let mut copied = Args::new(alloc);
+        copied.push(Blob::from_slice(alloc, name)?)?;
+        for word in &words.as_slice()[1..] {
+            copied.push(word.copy(alloc)?)?;
+        }
+        Ok(Effect { words: copied })
+    }
+
+    /// A command of three words: this name, a key and a value.
+    pub fn on_key(alloc: Global, name: &[u8], key: &[u8], value: &[u8]) -> Result<Effect, NoMemory>
+        ensures words { IfOk result
+            (λ effect. effect ≡ record { words = name.now ∷ key.now ∷ value.now ∷ [] }) }
+    {
+        let mut words = Args::new(alloc);
+        words.push(Blob::from_slice(alloc, name)?)?;
+        words.push(Blob::from_slice(alloc, key)?)?;
+        words.push(Blob::from_slice(alloc, value)?)?;
+        Ok(Effect { words })
+    }
+}
+
 /// The changes of one event, in order.
 pub type Effects = Sequence<Effect>;
+
+/// A command that a module asks for when it is told a note.
+#[derive(Debug, Drop)]
+pub struct Chore {
+    /// The number of the module that asks.
+    pub place: u16,
+    /// The words of the command.
+    pub words: Args,
+}
+
+/// Chores in the order in which they are to be run.
+pub type Chores = Sequence<Chore>;
+
+impl Duplicate for Effect {
+    fn duplicate(&self, alloc: Global) -> Result<Effect, NoMemory> {
+        Ok(Effect {
+            words: self.words.copy(alloc)?,
+        })
+    }
+}
+
+impl Duplicate for Chore {
+    fn duplicate(&self, alloc: Global) -> Result<Chore, NoMemory> {
+        Ok(Chore {
+            place: self.place,
+            words: self.words.copy(alloc)?,
+        })
+    }
+}

@@ -31,6 +31,15 @@ impl Line {
         })
     }
 
+    /// A second line of the same text.
+    pub fn copy(&self, alloc: Global) -> Result<Line, NoMemory>
+        ensures same { IfOk result (λ line. line ≡ self.now) }
+    {
+        Ok(Line {
+            text: Vec::from_slice(alloc, &self.text)?,
+        })
+    }
+
     /// The bytes of the text.
     pub fn as_slice(&self) -> &[u8]
         ensures bytes { result.now ≡ self.now }

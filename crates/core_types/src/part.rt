@@ -1,6 +1,7 @@
 //! A reply, or the header of an array whose replies follow.
 
-use crate::{Blob, Line};
+use crate::{Blob, Duplicate, Line, NoMemory};
+use std::alloc::Global;
 
 /// What a list of replies is made of: a reply that holds no other, or an array's header.
 #[derive(Debug, Drop)]
@@ -19,4 +20,18 @@ pub enum Part {
     NullArray,
     /// An array of so many replies, whose parts come next.
     ArrayOf(u64),
+}
+
+impl Duplicate for Part {
+    fn duplicate(&self, alloc: Global) -> Result<Part, NoMemory> {
+        Ok(match self {
+            Part::Simple(text) => Part::Simple(text.copy(alloc)?),
+            Part::Error(text) => Part::Error(text.copy(alloc)?),
+            Part::Int(n) => Part::Int(*n),
+            Part::Bulk(bytes) => Part::Bulk(bytes.copy(alloc)?),
+            Part::Null => Part::Null,
+            Part::NullArray => Part::NullArray,
+            Part::ArrayOf(count) => Part::ArrayOf(*count),
+        })
+    }
 }

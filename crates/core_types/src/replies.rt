@@ -1,8 +1,9 @@
 //! The replies in an array, kept flat.
 
-ghost use Rattle.std.specs.Prelude.{◌≡◌, ◌+◌, ◌≤◌, ◌++◌, [], OnOk, OnErr};
+ghost use Rattle.std.specs.Prelude.{◌≡◌, ◌+◌, ◌≤◌, ◌++◌, [], IfOk, OnOk, OnErr};
 
 use crate::parts::push_parts;
+use crate::sequence::duplicate_items;
 use crate::{NoMemory, Part, Reply};
 use std::alloc::Global;
 use std::marker::Model;
@@ -62,6 +63,16 @@ impl Replies {
         push_parts(&mut self.parts, reply)?;
         self.count += 1;
         Ok(())
+    }
+
+    /// A second list of the same replies.
+    pub fn copy(&self, alloc: Global) -> Result<Replies, NoMemory>
+        ensures same { IfOk result (λ replies. replies ≡ self.now) }
+    {
+        Ok(Replies {
+            count: self.count,
+            parts: duplicate_items(alloc, &self.parts)?,
+        })
     }
 
     // The count and the parts, for the reply that holds them.

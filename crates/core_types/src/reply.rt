@@ -3,7 +3,7 @@
 ghost use Rattle.std.specs.Prelude.{◌≡◌, map, IfOk};
 ghost use Rattle.core_types.specs.Printable.{printable};
 
-use crate::{Blob, Line, NoMemory, Replies};
+use crate::{Blob, Duplicate, Line, NoMemory, Replies};
 use std::alloc::Global;
 
 /// A reply of RESP2.
@@ -38,5 +38,26 @@ impl Reply {
         ensures error { IfOk result (λ reply. reply ≡ Reply.Error (map printable text.now)) }
     {
         Ok(Reply::Error(Line::from_text(alloc, text)?))
+    }
+
+    /// A second reply like this one.
+    pub fn copy(&self, alloc: Global) -> Result<Reply, NoMemory>
+        ensures same { IfOk result (λ reply. reply ≡ self.now) }
+    {
+        Ok(match self {
+            Reply::Simple(text) => Reply::Simple(text.copy(alloc)?),
+            Reply::Error(text) => Reply::Error(text.copy(alloc)?),
+            Reply::Int(n) => Reply::Int(*n),
+            Reply::Bulk(bytes) => Reply::Bulk(bytes.copy(alloc)?),
+            Reply::Null => Reply::Null,
+            Reply::Array(replies) => Reply::Array(replies.copy(alloc)?),
+            Reply::NullArray => Reply::NullArray,
+        })
+    }
+}
+
+impl Duplicate for Reply {
+    fn duplicate(&self, alloc: Global) -> Result<Reply, NoMemory> {
+        self.copy(alloc)
     }
 }

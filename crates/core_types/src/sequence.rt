@@ -1,7 +1,7 @@
 //! A list that grows at its end, seen as the list of its items.
 
 ghost use Rattle.std.specs.Prelude.{◌≡◌, ◌==◌, ◌++◌, List, [], ◌∷◌, length, slice_get, IfOk, OnOk, OnErr};
-ghost use Rattle.std.specs.Option.{option_copied};
+ghost use Rattle.std.specs.Option.{option_copied, option_to_list};
 
 use crate::{Duplicate, NoMemory};
 use std::alloc::Global;
@@ -71,6 +71,25 @@ impl<T> Sequence<T> {
     {
         &self.items
     }
+
+    /// Takes out the last item, if there is one. Takes no memory.
+    pub fn pop(&mut self) -> Option<T>
+        ensures items { self.old ≡ self.new ++ option_to_list result }
+        ensures none { result ≡ None → self.old ≡ [] }
+    {
+        self.items.pop()
+    }
+
+    /// Moves all items of another list to the end of this one.
+    pub fn append(&mut self, more: &mut Sequence<T>) -> Result<(), NoMemory>
+        ensures ok { OnOk result (self.new ≡ self.old ++ more.old) }
+        ensures moved { OnOk result (more.new ≡ []) }
+        ensures err { OnErr result (self.new ≡ self.old) }
+        ensures err_more { OnErr result (more.new ≡ more.old) }
+    {
+        self.items.append(&mut more.items)?;
+        Ok(())
+    }
 }
 
 impl<T: Drop> Sequence<T> {
@@ -95,7 +114,17 @@ impl<T: Duplicate + Drop> Sequence<T> {
     }
 }
 
-fn duplicate_items<T: Duplicate + Drop>(alloc: Global, items: &[T]) -> Result<Vec<T>, NoMemory>
+impl<T: Duplicate + Drop> Duplicate for Sequence<T> {
+    fn duplicate(&self, alloc: Global) -> Result<Sequence<T>, NoMemory> {
+        self.copy(alloc)
+    }
+}
+
+/// A second list of items.
+pub(crate) fn duplicate_items<T: Duplicate + Drop>(
+    alloc: Global,
+    items: &[T],
+) -> Result<Vec<T>, NoMemory>
     ensures same { IfOk result (λ copies. copies.items ≡ items.now) }
 {
     let mut copies = Vec::new(alloc);

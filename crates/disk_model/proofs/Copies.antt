@@ -1,17 +1,15 @@
 -- How a disk is made again, change by change.
-use Rattle.std.proofs.Common.{◌≡◌, ◌<◌, ◌≤◌, ◌+◌, ℕ, zero, suc, List, [], ◌∷◌, length, take, drop, get_or, set, Option, refl, sym, ◌∙◌, ap, subst, arith, add-one}
+use Rattle.std.proofs.Common.{◌≡◌, ◌<◌, ◌≤◌, ◌+◌, ℕ, zero, suc, List, [], ◌∷◌, length, take, drop, map, get_or, set, Option, refl, sym, ◌∙◌, ap, subst, arith, add-one}
 use Rattle.std.proofs.Math.Seq.{drop-cons}
 use Rattle.std.specs.List.{slice_get}
 use Rattle.std.specs.Option.{option_map, option_and_then}
 use Rattle.disk_model.specs.Files.{Files, file}
 use Rattle.disk_model.specs.Disk.{Names, number_of, after_renames, Stored, Disk, with_stored, settled_disk}
-use Rattle.disk_model.specs.DiskLaws.{same_files}
+use Rattle.disk_model.proofs.DiskLaws.{same_files}
 use Rattle.disk_model.specs.Images.{Leaves}
-use Rattle.disk_model.specs.Past.{Past, disk_after, disk_at}
-use Rattle.disk_model.specs.History.{change_of, History, begun, made_from, past_of, files_of}
-use Rattle.disk_model.specs.SoundPast.{files_begun}
+use Rattle.disk_model.specs.Past.{Made, Past, after, disk_at}
 use Rattle.disk_model.specs.Choices.{after_steps, chosen_file, chosen_of, chosen}
-use Rattle.disk_model.specs.Copied.{after_deeds}
+use Rattle.disk_model.specs.inner.Recorded.{made_of}
 use Rattle.disk_model.proofs.Images.{choice_leaves}
 use Rattle.disk_model.specs.declared.choice.Choice.{Choice}
 use Rattle.disk_model.specs.declared.file_name.FileName.{FileName}
@@ -36,25 +34,21 @@ none_there change [] i past = refl
 none_there change (first ∷ files) zero past = absurd (omega (arith, past))
 none_there change (first ∷ files) (suc i) past = ap (λ (rest : List Stored). first ∷ rest) (none_there change files i (omega (arith, past)))
 
--- the disk at a moment is the one after the calls up to it
-deeds_until : (disk : Disk) (deeds : List Deed) (n : ℕ) → disk_after disk (made_from disk deeds) n ≡ after_deeds disk (take n deeds)
-deeds_until disk [] zero = refl
-deeds_until disk [] (suc n) = refl
-deeds_until disk (one ∷ deeds) zero = refl
-deeds_until disk (one ∷ deeds) (suc n) = deeds_until (change_of one disk) deeds n
+-- the disk at a moment is the one that was made again from the calls up to it
+take_map : (n : ℕ) (deeds : List Deed) → take n (map made_of deeds) ≡ map made_of (take n deeds)
+take_map zero deeds = refl
+take_map (suc n) [] = refl
+take_map (suc n) (one ∷ deeds) = ap (λ (made : List Made). made_of one ∷ made) (take_map n deeds)
 
-pub disk_until : (history : History) (n : ℕ) → disk_at (past_of history) n ≡ after_deeds (settled_disk history.began) (take n history.deeds)
-unfolding past_of
-disk_until history n = deeds_until (settled_disk history.began) history.deeds n
-
--- a disk that was made again from the calls up to a moment
-pub disk_made : (history : History) (n : ℕ) (began : Files) (deeds done : List Deed) (start disk : Disk)
-    → (let parts : History = record { began = began; deeds = deeds } in parts) ≡ history → start ≡ settled_disk began → disk ≡ after_deeds start done → done ≡ take n deeds
-    → disk ≡ disk_at (past_of history) n
-disk_made history n began deeds done start disk is starts made until =
-    let parts : History = record { began = began; deeds = deeds } in
-    let P : History → Type 0 = λ whole. disk ≡ disk_at (past_of whole) n in
-    let here : P parts = made ∙ ap (λ (from : Disk). after_deeds from done) starts ∙ ap (after_deeds (settled_disk began)) until ∙ sym (disk_until parts n) in
+pub disk_made : (past : Past) (n : ℕ) (began : Files) (deeds made : List Deed) (start disk : Disk)
+    → (let parts : Past = record { began = began; made = map made_of deeds } in parts) ≡ past → start ≡ settled_disk began → disk ≡ after start (map made_of made) → made ≡ take n deeds
+    → disk ≡ disk_at past n
+unfolding disk_at
+disk_made past n began deeds made start disk is starts made_is until =
+    let parts : Past = record { began = began; made = map made_of deeds } in
+    let P : Past → Type 0 = λ whole. disk ≡ after (settled_disk whole.began) (take n whole.made) in
+    let here : P parts = made_is ∙ ap (λ (from : Disk). after from (map made_of made)) starts ∙ ap (λ (some : List Deed). after (settled_disk began) (map made_of some)) until
+    ∙ ap (after (settled_disk began)) (sym (take_map n deeds)) in
     subst P is here
 
 -- a name's file with its first unsynced steps, by its number
@@ -83,18 +77,8 @@ chosen_made choice disk names log log_temp dump dump_temp image same is_log is_l
     let four : file DumpTemp image ≡ file DumpTemp (chosen_of choice disk) = file_chosen DumpTemp choice.dump_temp names kept disk.files dump_temp image.dump_temp same is_dump_temp left_dump_temp in
     same_files image (chosen_of choice disk) (elim [ Log ↦ one | LogTemp ↦ two | Dump ↦ three | DumpTemp ↦ four ])
 
--- an image's files and its past
-pub image_files : (new : History) (files : Files) → new ≡ begun files → files_of new ≡ files
-image_files new files is = ap files_of is ∙ files_begun files
-
-past_begun : (files : Files) → past_of (begun files) ≡ (let past : Past = record { began = settled_disk files; made = [] } in past)
-unfolding past_of
-past_begun files = refl
-
-pub image_past : (new : History) (files : Files) → new ≡ begun files → past_of new ≡ (let past : Past = record { began = settled_disk files; made = [] } in past)
-image_past new files is = ap past_of is ∙ past_begun files
-
-pub image_allowed : (choice : Choice) (past : Past) (new : History) → new ≡ begun (chosen choice past) → Leaves (disk_at past choice.since) (files_of new)
-image_allowed choice past new is =
-    let P : Files → Type 0 = λ files. Leaves (disk_at past choice.since) files in
-    subst P (sym (image_files new (chosen choice past) is)) (choice_leaves choice (disk_at past choice.since))
+-- an image's files
+pub image_allowed : (choice : Choice) (past : Past) (files : Files) → files ≡ chosen choice past → Leaves (disk_at past choice.since) files
+image_allowed choice past files is =
+    let P : Files → Type 0 = λ all. Leaves (disk_at past choice.since) all in
+    subst P (sym is) (choice_leaves choice (disk_at past choice.since))

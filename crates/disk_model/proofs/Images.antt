@@ -1,19 +1,15 @@
--- What a crash leaves of a disk.
-use Rattle.std.proofs.Common.{◌≡◌, ◌≢◌, ◌⊎◌, ◌<◌, ◌≤◌, ◌+◌, ◌-◌, ◌++◌, ℕ, zero, suc, min, max, List, [], ◌∷◌, length, take, Option, Some, None, refl, sym, ◌∙◌, ap, subst, inl, inr, arith, append_assoc, append-nil}
-use Rattle.std.specs.List.{slice_get}
-use Rattle.std.specs.Option.{option_map, option_and_then}
+-- What a crash leaves of a disk is given by choices, and how it reads is one of that.
+use Rattle.std.proofs.Common.{◌≡◌, ◌≤◌, ◌+◌, ◌-◌, ◌++◌, ℕ, min, max, List, [], ◌∷◌, length, take, Option, Some, None, refl, sym, ◌∙◌, ap, subst, inl, inr, arith, append-nil}
+use Rattle.std.specs.Option.{option_map}
 use Rattle.std.proofs.lemmas.Bool.{cases_lt}
 use Rattle.std.proofs.lemmas.List.{take_all, take_min}
 use Rattle.std.proofs.Math.Seq.{take-length}
 use Rattle.disk_model.specs.Files.{Files, file}
-use Rattle.disk_model.specs.Disk.{Change, changed, after_changes, Stored, bytes_now, settled, Names, NameChange, number_of, with_number, renamed, after_renames, Disk, names_now, stored, reads, with_change, made_safe, with_changed, on_file, synced, created}
+use Rattle.disk_model.specs.Disk.{Change, changed, after_changes, Stored, bytes_now, Names, NameChange, after_renames, Disk, names_now, stored, reads}
 use Rattle.disk_model.specs.Images.{Partly, LeavesBytes, LeavesFile, Leaves}
 use Rattle.disk_model.specs.Past.{Past, disk_at}
-use Rattle.disk_model.specs.Sound.{AreDistinct, AreBelow, AreFresh, IsSound}
-use Rattle.disk_model.specs.NameLaws.{number_elsewhere, after_created, created_distinct, created_below, fresh_front, after_below}
-use Rattle.disk_model.specs.DiskLaws.{same_files, read_at, changed_there, changed_elsewhere, stored_before}
+use Rattle.disk_model.proofs.DiskLaws.{same_files, read_at}
 use Rattle.disk_model.specs.Choices.{steps_of, stepped, after_steps, chosen_of, chosen}
-use Rattle.disk_model.specs.Crash.{IsSettled, OnlyAdded, OnlyCreated, IsTemporary, IsAfterCallOn, LeavesSame}
 use Rattle.disk_model.specs.declared.choice.Choice.{Choice}
 use Rattle.disk_model.specs.declared.file_name.FileName.{FileName}
 use Rattle.disk_model.specs.declared.file_name.FileName.TheVariants.{Log, LogTemp, Dump, DumpTemp}
@@ -123,11 +119,11 @@ choice_at past n image leaves =
     (found.0, subst P (sym found.1) found.2)
 
 -- all that was changed is one of what a crash may leave
-now_leaves : (bytes : List ℕ) (changes : List Change) → LeavesBytes bytes changes (after_changes bytes changes)
+pub now_leaves : (bytes : List ℕ) (changes : List Change) → LeavesBytes bytes changes (after_changes bytes changes)
 now_leaves bytes [] = refl
 now_leaves bytes (change ∷ more) = inr (now_leaves (changed bytes change) more)
 
-file_now_leaves : (one : Option Stored) → LeavesFile one (option_map bytes_now one)
+pub file_now_leaves : (one : Option Stored) → LeavesFile one (option_map bytes_now one)
 file_now_leaves None = refl
 file_now_leaves (Some one) = (bytes_now one, refl, now_leaves one.synced one.changes)
 
@@ -142,161 +138,3 @@ reads_leaves disk =
           let here : P disk.renames = subst Q (sym (read_at name disk)) (file_now_leaves (stored name (names_now disk) disk.files)) in
           subst P (sym (take-length disk.renames)) here);
     }
-
--- a synced file is left as it reads
-safe_left : (one : Option Stored) (image : Option (List ℕ)) → LeavesFile (option_map made_safe one) image → image ≡ option_map bytes_now one
-safe_left None image leaves = leaves
-safe_left (Some one) image leaves = leaves.1 ∙ ap Some leaves.2
-
--- the file of a settled name, whatever names a crash keeps
-settled_file : (name : FileName) (disk : Disk) (files : List Stored) (kept : ℕ) → IsSettled name disk → stored name (after_renames disk.names (take kept disk.renames)) files ≡ stored name (names_now disk) files
-settled_file name disk files kept is_settled = ap (λ (o : Option ℕ). option_and_then (λ n. slice_get files n) o) (is_settled kept)
-
-pub synced_left : (name : FileName) (disk : Disk) (image : Files) → IsSettled name disk → Leaves (synced name disk) image → file name image ≡ file name (reads disk)
-synced_left name disk image is_settled leaves =
-    let files : List Stored = with_changed made_safe (number_of name (names_now disk)) disk.files in
-    let P : Option Stored → Type 0 = λ one. LeavesFile one (file name image) in
-    let here : P (stored name (names_now disk) files) = subst P (settled_file name disk files leaves.kept is_settled) (leaves.each name) in
-    let safe : P (option_map made_safe (stored name (names_now disk) disk.files)) = subst P (changed_there made_safe (number_of name (names_now disk)) disk.files) here in
-    safe_left (stored name (names_now disk) disk.files) (file name image) safe ∙ sym (read_at name disk)
-
--- what was synced begins what is left, where bytes were only added
-added_left : (bytes : List ℕ) (changes : List Change) (image : List ℕ) → OnlyAdded changes → LeavesBytes bytes changes image → (more : List ℕ) × (image ≡ bytes ++ more)
-added_left bytes [] image added leaves = ([], leaves ∙ sym (append-nil bytes))
-added_left bytes (Change.Added more ∷ changes) image added (inl part) = (take part.0 more, part.1)
-added_left bytes (Change.Added more ∷ changes) image added (inr leaves) =
-    let rest : (back : List ℕ) × (image ≡ (bytes ++ more) ++ back) = added_left (bytes ++ more) changes image added leaves in
-    (more ++ rest.0, rest.1 ∙ append_assoc bytes more rest.0)
-added_left bytes (Change.CutTo kept ∷ changes) image added leaves = absurd added
-
-pub front_left : (name : FileName) (disk : Disk) (one : Stored) (image : Files) → IsSettled name disk → stored name (names_now disk) disk.files ≡ Some one → OnlyAdded one.changes → Leaves disk image
-    → (more : List ℕ) × (file name image ≡ Some (one.synced ++ more))
-front_left name disk one image is_settled is_one added leaves =
-    let P : Option Stored → Type 0 = λ stored. LeavesFile stored (file name image) in
-    let left : P (Some one) = subst P (settled_file name disk disk.files leaves.kept is_settled ∙ is_one) (leaves.each name) in
-    let rest : (more : List ℕ) × (left.0 ≡ one.synced ++ more) = added_left one.synced one.changes left.0 added left.2 in
-    (rest.0, left.1 ∙ ap Some rest.1)
-
--- where a name's number came from, where no file moved
-number_from : (name : FileName) (bound : ℕ) (names : Names) (renames : List NameChange) (end number : ℕ) → OnlyCreated renames → AreFresh bound renames end
-    → number_of name (after_renames names renames) ≡ Some number → (number_of name names ≡ Some number) ⊎ (bound ≤ number)
-number_from name bound names [] end number only fresh has = inl has
-number_from name bound names (NameChange.Created other new ∷ more) end number only fresh has =
-    elim (number_from name (suc new) (with_number other (Some new) names) more end number only fresh.1 has) [
-      | inl given ↦ elim (after_created name other new number names given) [
-        | inl one ↦ inr (let low : bound ≤ new = fresh.0 in omega (arith, one.1))
-        | inr one ↦ inl one.1
-      ]
-      | inr late ↦ inr (let low : bound ≤ new = fresh.0 in omega arith)
-    ]
-number_from name bound names (NameChange.Renamed from to ∷ more) end number only fresh has = absurd only
-
--- Where no file moved, a file that one name ever stood for is never another's.
-never_shared : (name other : FileName) → name ≢ other → (bound : ℕ) (names : Names) (renames : List NameChange) (end kept number : ℕ)
-    → AreDistinct names → AreBelow bound names → AreFresh bound renames end → OnlyCreated renames
-    → number_of name (after_renames names (take kept renames)) ≡ Some number → number_of other (after_renames names renames) ≡ Some number → ⊥
-never_shared name other ne bound names renames end zero number distinct below fresh only has other_has =
-    elim (number_from other bound names renames end number only fresh other_has) [
-      | inl given ↦ ne (distinct name other number has given)
-      | inr late ↦ (let low : number < bound = below name number has in absurd (omega arith))
-    ]
-never_shared name other ne bound names [] end (suc kept) number distinct below fresh only has other_has = ne (distinct name other number has other_has)
-never_shared name other ne bound names (NameChange.Created made new ∷ more) end (suc kept) number distinct below fresh only has other_has =
-    never_shared name other ne (suc new) (with_number made (Some new) names) more end kept number
-    (created_distinct made new bound names distinct below fresh.0) (created_below made new bound names below fresh.0) fresh.1 only has other_has
-never_shared name other ne bound names (NameChange.Renamed from to ∷ more) end (suc kept) number distinct below fresh only has other_has = absurd only
-
--- the same log and dump, and the temporary files as they read
-same_image : (names : Names) (files : List Stored) (image : Files) → Files
-same_image names files image = record image {
-  log_temp = option_map bytes_now (stored LogTemp names files);
-  dump_temp = option_map bytes_now (stored DumpTemp names files);
-}
-
-same_each : (names : Names) (files : List Stored) (image : Files) → LeavesFile (stored Log names files) image.log → LeavesFile (stored Dump names files) image.dump
-    → (name : FileName) → LeavesFile (stored name names files) (file name (same_image names files image))
-unfolding same_image
-same_each names files image log dump Log = log
-same_each names files image log dump LogTemp = file_now_leaves (stored LogTemp names files)
-same_each names files image log dump Dump = dump
-same_each names files image log dump DumpTemp = file_now_leaves (stored DumpTemp names files)
-
-same_left : (disk : Disk) (kept : ℕ) (image : Files) → LeavesFile (stored Log (after_renames disk.names (take kept disk.renames)) disk.files) image.log
-    → LeavesFile (stored Dump (after_renames disk.names (take kept disk.renames)) disk.files) image.dump → LeavesSame disk image
-unfolding same_image
-same_left disk kept image log dump =
-    let names : Names = after_renames disk.names (take kept disk.renames) in
-    record { files = same_image names disk.files image; leaves = record { kept = kept; each = same_each names disk.files image log dump }; log = refl; dump = refl }
-
-not_log : (name : FileName) → IsTemporary name → Log ≢ name
-not_log Log temporary same = temporary
-not_log LogTemp temporary same = cc
-not_log Dump temporary same = temporary
-not_log DumpTemp temporary same = cc
-
-not_dump : (name : FileName) → IsTemporary name → Dump ≢ name
-not_dump Log temporary same = temporary
-not_dump LogTemp temporary same = cc
-not_dump Dump temporary same = temporary
-not_dump DumpTemp temporary same = cc
-
--- what a change of one file leaves of another
-other_left : (name other : FileName) (change : Stored → Stored) (disk : Disk) (kept : ℕ) (image : Option (List ℕ)) → IsSound disk → OnlyCreated disk.renames → other ≢ name
-    → LeavesFile (stored other (after_renames disk.names (take kept disk.renames)) (with_changed change (number_of name (names_now disk)) disk.files)) image
-    → LeavesFile (stored other (after_renames disk.names (take kept disk.renames)) disk.files) image
-other_left name other change disk kept image sound only ne leaves =
-    let P : Option Stored → Type 0 = λ one. LeavesFile one image in
-    let names : Names = after_renames disk.names (take kept disk.renames) in
-    subst P (changed_elsewhere change (number_of name (names_now disk)) (number_of other names) disk.files
-    (λ number has_other has_name. never_shared other name ne sound.bound disk.names disk.renames (length disk.files) kept number sound.distinct sound.below sound.fresh only has_other has_name)) leaves
-
-changed_left : (name : FileName) (change : Stored → Stored) (disk : Disk) (image : Files) → IsSound disk → OnlyCreated disk.renames → IsTemporary name
-    → Leaves (on_file name change disk) image → LeavesSame disk image
-changed_left name change disk image sound only temporary leaves = same_left disk leaves.kept image
-    (other_left name Log change disk leaves.kept image.log sound only (not_log name temporary) (leaves.each Log))
-    (other_left name Dump change disk leaves.kept image.dump sound only (not_dump name temporary) (leaves.each Dump))
-
--- a file made for one name changes no other's number, however many changes a crash keeps
-number_kept : (name other : FileName) (new : ℕ) → other ≢ name → (names : Names) (renames : List NameChange) (kept : ℕ)
-    → number_of other (after_renames names (take kept (renames ++ NameChange.Created name new ∷ []))) ≡ number_of other (after_renames names (take kept renames))
-number_kept name other new ne names renames zero = refl
-number_kept name other new ne names [] (suc zero) = number_elsewhere other name (Some new) names ne
-number_kept name other new ne names [] (suc (suc kept)) = number_elsewhere other name (Some new) names ne
-number_kept name other new ne names (change ∷ renames) (suc kept) = number_kept name other new ne (renamed names change) renames kept
-
-other_kept : (name other : FileName) (disk : Disk) (kept : ℕ) (image : Option (List ℕ)) → IsSound disk → other ≢ name
-    → LeavesFile (stored other (after_renames disk.names (take kept (created name disk).renames)) (created name disk).files) image
-    → LeavesFile (stored other (after_renames disk.names (take kept disk.renames)) disk.files) image
-other_kept name other disk kept image sound ne leaves =
-    let P : Option Stored → Type 0 = λ one. LeavesFile one image in
-    let files : List Stored = disk.files ++ settled [] ∷ [] in
-    let names : Names = after_renames disk.names (take kept disk.renames) in
-    let number : P (option_and_then (λ n. slice_get files n) (number_of other names)) =
-    subst P (ap (λ (o : Option ℕ). option_and_then (λ n. slice_get files n) o) (number_kept name other (length disk.files) ne disk.names disk.renames kept)) leaves in
-    subst P (stored_before (number_of other names) disk.files (settled [])
-    (after_below sound.bound disk.names (take kept disk.renames) (length disk.files) sound.below (fresh_front kept sound.bound disk.renames (length disk.files) sound.fresh) other)) number
-
-created_left : (name : FileName) (disk : Disk) (image : Files) → IsSound disk → IsTemporary name → Leaves (created name disk) image → LeavesSame disk image
-created_left name disk image sound temporary leaves = same_left disk leaves.kept image
-    (other_kept name Log disk leaves.kept image.log sound (not_log name temporary) (leaves.each Log))
-    (other_kept name Dump disk leaves.kept image.dump sound (not_dump name temporary) (leaves.each Dump))
-
--- What a call on a temporary file leaves, some crash before it left under Log and under Dump.
-pub temporary_left : (name : FileName) (old new : Disk) (image : Files) → IsSound old → OnlyCreated old.renames → IsTemporary name → IsAfterCallOn name old new
-    → Leaves new image → LeavesSame old image
-temporary_left name old new image sound only temporary (inl same) leaves =
-    let P : Disk → Type 0 = λ disk. Leaves disk image in
-    let before : P old = subst P same leaves in
-    same_left old before.kept image (before.each Log) (before.each Dump)
-temporary_left name old new image sound only temporary (inr (inl done)) leaves =
-    let P : Disk → Type 0 = λ disk. Leaves disk image in
-    changed_left name (with_change (Change.Added done.0)) old image sound only temporary (subst P done.1 leaves)
-temporary_left name old new image sound only temporary (inr (inr (inl done))) leaves =
-    let P : Disk → Type 0 = λ disk. Leaves disk image in
-    changed_left name (with_change (Change.CutTo done.0)) old image sound only temporary (subst P done.1 leaves)
-temporary_left name old new image sound only temporary (inr (inr (inr (inl same)))) leaves =
-    let P : Disk → Type 0 = λ disk. Leaves disk image in
-    changed_left name made_safe old image sound only temporary (subst P same leaves)
-temporary_left name old new image sound only temporary (inr (inr (inr (inr same)))) leaves =
-    let P : Disk → Type 0 = λ disk. Leaves disk image in
-    created_left name old image sound temporary (subst P same leaves)

@@ -22,33 +22,24 @@ file LogTemp files = files.log_temp
 file Dump files = files.dump
 file DumpTemp files = files.dump_temp
 
--- the same files, but for one that has these bytes
-abbrev pub with_file : FileName → List ℕ → Files → Files
-with_file Log bytes files = record files { log = Some bytes }
-with_file LogTemp bytes files = record files { log_temp = Some bytes }
-with_file Dump bytes files = record files { dump = Some bytes }
-with_file DumpTemp bytes files = record files { dump_temp = Some bytes }
-
--- the same files, but for one that has these bytes at its end
-abbrev pub with_appended : FileName → List ℕ → Files → Files
-with_appended Log bytes files = record files { log = option_map (λ old. old ++ bytes) files.log }
-with_appended LogTemp bytes files = record files { log_temp = option_map (λ old. old ++ bytes) files.log_temp }
-with_appended Dump bytes files = record files { dump = option_map (λ old. old ++ bytes) files.dump }
-with_appended DumpTemp bytes files = record files { dump_temp = option_map (λ old. old ++ bytes) files.dump_temp }
-
--- the same files, but for one that has only its first bytes, so many
-abbrev pub with_cut : FileName → ℕ → Files → Files
-with_cut Log length files = record files { log = option_map (take length) files.log }
-with_cut LogTemp length files = record files { log_temp = option_map (take length) files.log_temp }
-with_cut Dump length files = record files { dump = option_map (take length) files.dump }
-with_cut DumpTemp length files = record files { dump_temp = option_map (take length) files.dump_temp }
-
--- the same files, but for one, which is this or is gone
+-- the same files, but for one, which has these bytes or is gone
 abbrev pub put : FileName → Option (List ℕ) → Files → Files
 put Log bytes files = record files { log = bytes }
 put LogTemp bytes files = record files { log_temp = bytes }
 put Dump bytes files = record files { dump = bytes }
 put DumpTemp bytes files = record files { dump_temp = bytes }
+
+-- the same files, but for one that has these bytes
+abbrev pub with_file : FileName → List ℕ → Files → Files
+with_file name bytes files = put name (Some bytes) files
+
+-- the same files, but for one that has these bytes at its end
+abbrev pub with_appended : FileName → List ℕ → Files → Files
+with_appended name bytes files = put name (option_map (λ old. old ++ bytes) (file name files)) files
+
+-- the same files, but for one that has only its first bytes, so many
+abbrev pub with_cut : FileName → ℕ → Files → Files
+with_cut name length files = put name (option_map (take length) (file name files)) files
 
 -- the same files, but for one that moved to another name. What that had is gone.
 abbrev pub with_moved : FileName → FileName → Files → Files

@@ -1,9 +1,7 @@
--- What a directory has been since it was opened: the calls made on it, and the disk after each.
-use Rattle.std.specs.Prelude.{◌≡◌, ◌≤◌, ℕ, zero, suc, List, [], ◌∷◌, ◌++◌, length, map, Option, Some, None}
-use Rattle.std.specs.Option.{option_map}
+-- What was done on a directory: the files at first, the calls since, and the disk that follows.
+use Rattle.std.specs.Prelude.{⊤, ℕ, List, [], ◌∷◌, ◌++◌, take}
 use Rattle.disk_model.specs.Files.{Files}
-use Rattle.disk_model.specs.Disk.{Disk}
-use Rattle.disk_model.specs.Images.{Leaves}
+use Rattle.disk_model.specs.Disk.{Disk, reads, settled_disk, appended, cut_to, synced, created, moved, names_synced}
 use Rattle.disk_model.specs.declared.file_name.FileName.{FileName}
 
 -- a call, as it was asked for
@@ -16,77 +14,79 @@ pub data Call : Type 0 where
   Rename : (from to : FileName) → Call
   SyncNames : Call
 
--- a call that was made, and the disk that it left
+-- How a call came out. It answered Ok and was done. Or it failed, and was done all the same, or not done,
+-- or of an append the first bytes came, so many, or it found no memory to be recorded and was not done.
+pub data Outcome : Type 0 where
+  Done : Outcome
+  FailedDone : Outcome
+  FailedUndone : Outcome
+  FailedFront : (count : ℕ) → Outcome
+  Unrecorded : Outcome
+
+-- in which ways a call may fail
+abbrev pub MayFail : Call → Outcome → Type 0
+MayFail call Outcome.Done = ⊥
+MayFail call Outcome.FailedUndone = ⊤
+MayFail call Outcome.Unrecorded = ⊤
+MayFail (Call.Append name bytes) (Outcome.FailedFront count) = ⊤
+MayFail (Call.Cut name length) Outcome.FailedDone = ⊤
+MayFail (Call.Create name) Outcome.FailedDone = ⊤
+MayFail (Call.Rename from to) Outcome.FailedDone = ⊤
+MayFail call outcome = ⊥
+
+-- what a call makes of a disk where it is done
+abbrev pub done : Call → Disk → Disk
+done (Call.ReadAll name) disk = disk
+done (Call.Append name bytes) disk = appended name bytes disk
+done (Call.Cut name length) disk = cut_to name length disk
+done (Call.Sync name) disk = synced name disk
+done (Call.Create name) disk = created name disk
+done (Call.Rename from to) disk = moved from to disk
+done Call.SyncNames disk = names_synced disk
+
+-- the append of the first bytes alone, so many
+abbrev pub front_of : ℕ → Call → Call
+front_of count (Call.Append name bytes) = Call.Append name (take count bytes)
+front_of count call = call
+
+-- a call that was made, and how it came out
 pub record Made : Type 0 where
   pub call : Call
-  pub left : Disk
+  pub outcome : Outcome
 
--- the disk at first, and the calls since
+-- the disk that it left
+abbrev pub left_by : Call → Outcome → Disk → Disk
+left_by call Outcome.Done disk = done call disk
+left_by call Outcome.FailedDone disk = done call disk
+left_by call (Outcome.FailedFront count) disk = done (front_of count call) disk
+left_by call outcome disk = disk
+
+-- the disk after several calls, in order
+abbrev pub after : Disk → List Made → Disk
+after disk [] = disk
+after disk (one ∷ more) = after (left_by one.call one.outcome disk) more
+
+-- the files at first, all of them synced, and the calls since
 pub record Past : Type 0 where
-  pub began : Disk
+  pub began : Files
   pub made : List Made
 
--- The moments are numbered: 0 is the one before the first call, and n the one after call n.
-abbrev pub moment : Past → ℕ
-moment past = length past.made
+-- The moments are numbered: 0 is the one before the first call, and n the one after call n. The disk at a moment, or the last one:
+unfoldable pub disk_at : Past → ℕ → Disk
+disk_at past n = after (settled_disk past.began) (take n past.made)
 
--- the disk at a moment, or the last one
-abbrev pub disk_after : Disk → List Made → ℕ → Disk
-disk_after disk [] n = disk
-disk_after disk (made ∷ more) zero = disk
-disk_after disk (made ∷ more) (suc n) = disk_after made.left more n
+unfoldable pub disk_now : Past → Disk
+disk_now past = after (settled_disk past.began) past.made
 
-abbrev pub disk_at : Past → ℕ → Disk
-disk_at past n = disk_after past.began past.made n
-
-abbrev pub disk_now : Past → Disk
-disk_now past = disk_at past (moment past)
-
--- the calls in order
-abbrev pub calls_made : Past → List Call
-calls_made past = map (λ made. made.call) past.made
-
--- the past with one more call, which changed the disk so
-abbrev pub with_call : Call → (Disk → Disk) → Past → Past
-with_call call change past = record past { made = past.made ++ (record { call = call; left = change (disk_now past) }) ∷ [] }
-
--- A call was made and changed the disk so. A directory that tells its past goes on telling it, and one that doesn't goes on telling nothing.
-abbrev pub Goes : Call → (Disk → Disk) → Option Past → Option Past → Type 0
-Goes call change old new = new ≡ option_map (with_call call change) old
-
--- The call was not recorded, and changed nothing.
-abbrev pub Unrecorded : Option Past → Option Past → Type 0
-Unrecorded old new = new ≡ old
-
--- what a crash now may leave, where the directory tells it
-abbrev pub MayLeave : Option Past → Files → Type 0
-MayLeave None image = ⊥
-MayLeave (Some past) image = Leaves (disk_now past) image
-
--- what a crash at some moment from the n-th on might have left
-pub record LeftSincePast (past : Past) (n : ℕ) (image : Files) : Type 0 where
-  pub at : ℕ
-  pub since : n ≤ at
-  pub until : at ≤ moment past
-  pub leaves : Leaves (disk_at past at) image
-
-abbrev pub LeftSince : Option Past → ℕ → Files → Type 0
-LeftSince None n image = ⊥
-LeftSince (Some past) n image = LeftSincePast past n image
-
-abbrev pub moment_of : Option Past → ℕ
-moment_of None = 0
-moment_of (Some past) = moment past
+-- what reading each file gives
+unfoldable pub files_now : Past → Files
+files_now past = reads (disk_now past)
 
 -- the past, and further calls
 abbrev pub with_calls : List Made → Past → Past
 with_calls more past = record past { made = past.made ++ more }
 
--- The past goes on, by any calls or none.
-abbrev pub GoesOn : Option Past → Option Past → Type 0
-GoesOn old new = (more : List Made) × (new ≡ option_map (with_calls more) old)
-
--- The past goes on, and every image that the directory might have left since has P.
-pub record LeavesOnly (old new : Option Past) (P : Files → Type 0) : Type 0 where
-  pub goes_on : GoesOn old new
-  pub each : (image : Files) → LeftSince new (moment_of old) image → P image
+-- the past, and one more call that came out so, where it was recorded
+abbrev pub with_call : Call → Outcome → Past → Past
+with_call call Outcome.Unrecorded past = past
+with_call call outcome past = with_calls ((record { call = call; outcome = outcome }) ∷ []) past

@@ -1,49 +1,38 @@
--- What a directory in memory is seen as, and what a call makes of it.
-use Rattle.std.specs.Prelude.{◌≡◌, ◌⊎◌, ℕ, ◌+◌, ◌-◌, ◌^◌, min, List, Contains}
-use Rattle.disk_model.specs.Files.{Files, no_files}
-use Rattle.disk_model.specs.History.{call_of, change_of, effect_of, History, begun, with_deed, past_of, files_of}
-use Rattle.disk_model.specs.Past.{with_call}
-use Rattle.disk_model.specs.declared.memory.deed.Deed.{Deed}
+-- What a directory tells.
+use Rattle.std.specs.Prelude.{◌≡◌, ℕ, Option}
+use Rattle.std.specs.Option.{option_map, IfSome}
+use Rattle.disk_model.specs.Files.{Files}
+use Rattle.disk_model.specs.Disk.{Disk}
+use Rattle.disk_model.specs.Past.{Call, Outcome, MayFail, Past, disk_now, files_now, with_call}
 
--- what was done on it, how often it has failed, how often it was called, and the numbers of the calls that fail
+-- what was done on it, where it tells that, and how often it has failed
 pub record Told : Type 0 where
-  pub history : History
+  pub past : Option Past
   pub faults : ℕ
-  pub calls : ℕ
-  pub fails : List ℕ
 
--- no files, and no call yet
-abbrev pub untouched : List ℕ → Told
-untouched fails = record { history = begun no_files; faults = 0; calls = 0; fails = fails }
+-- what reading each file gives, where it tells
+abbrev pub files_told : Told → Option Files
+files_told told = option_map files_now told.past
 
--- the same directory, which begins anew with these files
-abbrev pub holding : Files → Told → Told
-holding files dir = record dir { history = begun files }
+-- the disk as it is now, where it tells
+abbrev pub disk_told : Told → Option Disk
+disk_told told = option_map disk_now told.past
 
--- one call more is recorded
-abbrev pub recorded : Deed → Told → Told
-recorded one dir = record dir { history = with_deed one dir.history }
+-- The disk as it is now has P, where it is told.
+abbrev pub Now : (Disk → Type 0) → Told → Type 0
+Now P told = IfSome (disk_told told) P
 
--- one more, or still the end of 64 bits
-abbrev pub one_more : ℕ → ℕ
-one_more n = min (n + 1) (2 ^ 64 - 1)
+-- A call was made and came out so. A directory that tells its past goes on telling it, and one that doesn't goes on telling nothing.
+abbrev pub Goes : Call → Outcome → Told → Told → Type 0
+Goes call outcome old new = new.past ≡ option_map (with_call call outcome) old.past
 
--- the next call is one that fails
-abbrev pub NextFails : Told → Type 0
-NextFails dir = Contains dir.fails (one_more dir.calls)
+-- A call failed, in one of the ways in which it may.
+pub record Fails (call : Call) (old new : Told) : Type 0 where
+  pub outcome : Outcome
+  pub may : MayFail call outcome
+  pub goes : Goes call outcome old new
 
--- after one more call
-abbrev pub called : Told → Told
-called dir = record dir { calls = one_more dir.calls }
-
--- after one more fault
-abbrev pub faulted : Told → Told
-faulted dir = record dir { faults = one_more dir.faults }
-
--- A failed call is recorded so, or found no memory to be recorded and changed nothing.
-abbrev pub FailedAs : Deed → Told → Told → Type 0
-FailedAs one old new = (new ≡ faulted (recorded one old)) ⊎ (new ≡ faulted old)
-
--- what that is to the files and to the past
-abbrev pub FailedSo : Deed → History → History → Type 0
-FailedSo one old new = ((files_of new ≡ effect_of one (files_of old)) × (past_of new ≡ with_call (call_of one) (change_of one) (past_of old))) ⊎ (new ≡ old)
+-- A call was made, whatever came of it.
+pub record Was (call : Call) (old new : Told) : Type 0 where
+  pub outcome : Outcome
+  pub goes : Goes call outcome old new

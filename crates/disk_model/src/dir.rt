@@ -1,13 +1,11 @@
 //! A directory as the layers above see it.
 
-ghost use Rattle.std.specs.Prelude.{◌≡◌, ◌⊎◌, ◌≤◌, ℕ, List, [], Option, take, length, IfOk, OnOk, OnErr, IfSome};
-ghost use Rattle.std.specs.Option.{option_map};
+ghost use Rattle.std.specs.Prelude.{◌≡◌, [], IfOk, OnOk, OnErr, IfSome};
 ghost use Rattle.core_types.specs.Causes.{HasCause, HasCauseFor};
 ghost use Rattle.disk_model.specs.declared.dir.ReadAllStop.TheVariants as stops;
 ghost use Rattle.disk_model.specs.Files.{Files, file, with_file, with_appended, with_cut, with_moved, Become, Stay, IsThere, IsAtLeast, IsSmall};
-ghost use Rattle.disk_model.specs.Disk.{reads, appended, cut_to, synced, created, moved, names_synced};
-ghost use Rattle.disk_model.specs.Past.{Call, Past, disk_now, Goes, Unrecorded};
-ghost use Rattle.disk_model.specs.Sound.{IsSoundPast};
+ghost use Rattle.disk_model.specs.Past.{Call, Outcome};
+ghost use Rattle.disk_model.specs.Told.{Told, files_told, Goes, Fails, Was};
 
 use crate::FileName;
 use core_types::{Blob, NoMemory};
@@ -42,98 +40,74 @@ impl From<NoMemory> for ReadAllStop {
     }
 }
 
-/// A directory of the four files of `FileName`.
+/// A directory of the four files of `FileName`. What its files read as, and what a crash may leave of them
+/// at each moment, follow from the calls made on it and how they came out (`Goes`, `Fails`).
 pub trait Dir {
-    /// What reading each file gives, where the directory tells it.
-    ghost files: { Self → Option Files };
-
-    /// How often it has failed. The count never falls, and stands still at the end of 64 bits.
-    ghost faults: { Self → ℕ };
-
-    /// The disk at first and the calls made since, where the directory tells them: what a crash may leave at
-    /// each moment follows. A failed call that finds no memory to be recorded changes nothing.
-    ghost past: { Self → Option Past };
+    /// What was done on it, where it tells that, and how often it has failed. The count never falls, and
+    /// stands still at the end of 64 bits.
+    ghost told: { Self → Told };
 
     /// All bytes of a file, or `None` where it is not there.
     fn read_all(&mut self, alloc: Global, name: FileName) -> Result<Option<Blob>, ReadAllStop>
-        ensures content { IfOk result (λ found. IfSome (files self.old) (λ known. found ≡ file name known)) }
-        ensures same { Stay (files self.old) (files self.new) }
-        ensures past_ok { OnOk result (Goes (Call.ReadAll name) (λ disk. disk) (past self.old) (past self.new)) }
-        ensures past_err { OnErr result (Goes (Call.ReadAll name) (λ disk. disk) (past self.old) (past self.new)
-            ⊎ Unrecorded (past self.old) (past self.new)) }
-        ensures cause { HasCauseFor ReadAllStop.Dir (faults self.old) (faults self.new) result };
+        ensures content { IfOk result (λ found.
+            IfSome (files_told (told self.old)) (λ files. found ≡ file name files)) }
+        ensures same { Stay (files_told (told self.old)) (files_told (told self.new)) }
+        ensures done { OnOk result (Goes (Call.ReadAll name) Outcome.Done (told self.old) (told self.new)) }
+        ensures failed { OnErr result (Was (Call.ReadAll name) (told self.old) (told self.new)) }
+        ensures cause { HasCauseFor ReadAllStop.Dir (told self.old).faults (told self.new).faults result };
 
     /// Adds bytes at the end of a file. On a fault a front of them may stand there. A file has at most
     /// 2^64 - 1 bytes: an append that would pass that fails.
     fn append(&mut self, name: FileName, bytes: &[u8]) -> Result<(), DirFault>
-        requires { IsThere name (files self.old) }
-        ensures ok { OnOk result (Become (with_appended name bytes.now) (files self.old) (files self.new)) }
-        ensures err { OnErr result ((kept : ℕ) ×
-            Become (with_appended name (take kept bytes.now)) (files self.old) (files self.new)) }
-        ensures small { OnOk result (IsSmall name (files self.new)) }
-        ensures small_err { OnErr result (IsSmall name (files self.old) → IsSmall name (files self.new)) }
-        ensures past_ok { OnOk result
-            (Goes (Call.Append name bytes.now) (appended name bytes.now) (past self.old) (past self.new)) }
-        ensures past_err { OnErr result (((kept : ℕ) ×
-            Goes (Call.Append name bytes.now) (appended name (take kept bytes.now)) (past self.old) (past self.new))
-            ⊎ Unrecorded (past self.old) (past self.new)) }
-        ensures cause { HasCause (faults self.old) (faults self.new) result };
+        requires { IsThere name (files_told (told self.old)) }
+        ensures ok { OnOk result (Become (with_appended name bytes.now)
+            (files_told (told self.old)) (files_told (told self.new))) }
+        ensures small { OnOk result (IsSmall name (files_told (told self.new))) }
+        ensures small_err { OnErr result
+            (IsSmall name (files_told (told self.old)) → IsSmall name (files_told (told self.new))) }
+        ensures done { OnOk result
+            (Goes (Call.Append name bytes.now) Outcome.Done (told self.old) (told self.new)) }
+        ensures failed { OnErr result (Fails (Call.Append name bytes.now) (told self.old) (told self.new)) }
+        ensures cause { HasCause (told self.old).faults (told self.new).faults result };
 
     /// Keeps the first bytes of a file, so many, and drops the rest. On a fault this has happened or not.
     fn cut(&mut self, name: FileName, length: u64) -> Result<(), DirFault>
-        requires { IsAtLeast length name (files self.old) }
-        ensures ok { OnOk result (Become (with_cut name length) (files self.old) (files self.new)) }
-        ensures err { OnErr result (Stay (files self.old) (files self.new)
-            ⊎ Become (with_cut name length) (files self.old) (files self.new)) }
-        ensures past_ok { OnOk result (Goes (Call.Cut name length) (cut_to name length) (past self.old) (past self.new)) }
-        ensures past_err { OnErr result ((Goes (Call.Cut name length) (λ disk. disk) (past self.old) (past self.new)
-            ⊎ Goes (Call.Cut name length) (cut_to name length) (past self.old) (past self.new))
-            ⊎ Unrecorded (past self.old) (past self.new)) }
-        ensures cause { HasCause (faults self.old) (faults self.new) result };
+        requires { IsAtLeast length name (files_told (told self.old)) }
+        ensures ok { OnOk result (Become (with_cut name length)
+            (files_told (told self.old)) (files_told (told self.new))) }
+        ensures done { OnOk result (Goes (Call.Cut name length) Outcome.Done (told self.old) (told self.new)) }
+        ensures failed { OnErr result (Fails (Call.Cut name length) (told self.old) (told self.new)) }
+        ensures cause { HasCause (told self.old).faults (told self.new).faults result };
 
-    /// Makes the bytes of a file safe from a crash.
+    /// Makes the bytes of a file safe from a crash. On a fault nothing is made safe.
     fn sync(&mut self, name: FileName) -> Result<(), DirFault>
-        requires { IsThere name (files self.old) }
-        ensures same { Stay (files self.old) (files self.new) }
-        ensures past_ok { OnOk result (Goes (Call.Sync name) (synced name) (past self.old) (past self.new)) }
-        ensures past_err { OnErr result (Goes (Call.Sync name) (λ disk. disk) (past self.old) (past self.new)
-            ⊎ Unrecorded (past self.old) (past self.new)) }
-        ensures cause { HasCause (faults self.old) (faults self.new) result };
+        requires { IsThere name (files_told (told self.old)) }
+        ensures same { Stay (files_told (told self.old)) (files_told (told self.new)) }
+        ensures done { OnOk result (Goes (Call.Sync name) Outcome.Done (told self.old) (told self.new)) }
+        ensures failed { OnErr result (Fails (Call.Sync name) (told self.old) (told self.new)) }
+        ensures cause { HasCause (told self.old).faults (told self.new).faults result };
 
     /// Gives the name a new and empty file. On a fault this has happened or not.
     fn create(&mut self, name: FileName) -> Result<(), DirFault>
-        ensures ok { OnOk result (Become (with_file name []) (files self.old) (files self.new)) }
-        ensures err { OnErr result (Stay (files self.old) (files self.new)
-            ⊎ Become (with_file name []) (files self.old) (files self.new)) }
-        ensures past_ok { OnOk result (Goes (Call.Create name) (created name) (past self.old) (past self.new)) }
-        ensures past_err { OnErr result ((Goes (Call.Create name) (λ disk. disk) (past self.old) (past self.new)
-            ⊎ Goes (Call.Create name) (created name) (past self.old) (past self.new))
-            ⊎ Unrecorded (past self.old) (past self.new)) }
-        ensures cause { HasCause (faults self.old) (faults self.new) result };
+        ensures ok { OnOk result (Become (with_file name [])
+            (files_told (told self.old)) (files_told (told self.new))) }
+        ensures done { OnOk result (Goes (Call.Create name) Outcome.Done (told self.old) (told self.new)) }
+        ensures failed { OnErr result (Fails (Call.Create name) (told self.old) (told self.new)) }
+        ensures cause { HasCause (told self.old).faults (told self.new).faults result };
 
     /// Moves a file to another name, and takes away what that had. On a fault this has happened or not.
     fn rename(&mut self, from: FileName, to: FileName) -> Result<(), DirFault>
-        requires { IsThere from (files self.old) }
-        ensures ok { OnOk result (Become (with_moved from to) (files self.old) (files self.new)) }
-        ensures err { OnErr result (Stay (files self.old) (files self.new)
-            ⊎ Become (with_moved from to) (files self.old) (files self.new)) }
-        ensures past_ok { OnOk result (Goes (Call.Rename from to) (moved from to) (past self.old) (past self.new)) }
-        ensures past_err { OnErr result ((Goes (Call.Rename from to) (λ disk. disk) (past self.old) (past self.new)
-            ⊎ Goes (Call.Rename from to) (moved from to) (past self.old) (past self.new))
-            ⊎ Unrecorded (past self.old) (past self.new)) }
-        ensures cause { HasCause (faults self.old) (faults self.new) result };
+        requires { IsThere from (files_told (told self.old)) }
+        ensures ok { OnOk result (Become (with_moved from to)
+            (files_told (told self.old)) (files_told (told self.new))) }
+        ensures done { OnOk result (Goes (Call.Rename from to) Outcome.Done (told self.old) (told self.new)) }
+        ensures failed { OnErr result (Fails (Call.Rename from to) (told self.old) (told self.new)) }
+        ensures cause { HasCause (told self.old).faults (told self.new).faults result };
 
-    /// Makes the names safe from a crash.
+    /// Makes the names safe from a crash. On a fault nothing is made safe.
     fn sync_names(&mut self) -> Result<(), DirFault>
-        ensures same { Stay (files self.old) (files self.new) }
-        ensures past_ok { OnOk result (Goes Call.SyncNames names_synced (past self.old) (past self.new)) }
-        ensures past_err { OnErr result (Goes Call.SyncNames (λ disk. disk) (past self.old) (past self.new)
-            ⊎ Unrecorded (past self.old) (past self.new)) }
-        ensures cause { HasCause (faults self.old) (faults self.new) result };
-
-    /// What reads is what the last disk reads.
-    ghost reads_now: { (dir : Self) → files dir ≡ option_map (λ past. reads (disk_now past)) (past dir) };
-
-    /// No file has two names, at any moment.
-    ghost sound: { (dir : Self) → IfSome (past dir) IsSoundPast };
+        ensures same { Stay (files_told (told self.old)) (files_told (told self.new)) }
+        ensures done { OnOk result (Goes Call.SyncNames Outcome.Done (told self.old) (told self.new)) }
+        ensures failed { OnErr result (Fails Call.SyncNames (told self.old) (told self.new)) }
+        ensures cause { HasCause (told self.old).faults (told self.new).faults result };
 }

@@ -1,5 +1,8 @@
 //! The files of a directory.
 
+ghost use Rattle.std.specs.Prelude.{◌≡◌};
+ghost use Rattle.disk_model.specs.FileName.{text};
+
 /// One of the four files that a directory may hold.
 #[derive(Clone, Copy, Debug, PartialEq, Eq)]
 pub enum FileName {
@@ -15,7 +18,9 @@ pub enum FileName {
 
 impl FileName {
     /// The file's name in its folder.
-    pub fn as_str(self) -> &'static str {
+    pub fn as_str(self) -> &'static str
+        ensures text { result.now ≡ text self }
+    {
         match self {
             FileName::Log => "appendonly.aof",
             FileName::LogTemp => "temp-rewriteaof.aof",

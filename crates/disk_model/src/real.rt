@@ -1,29 +1,34 @@
 //! A folder of the file system.
 
-ghost use Rattle.std.specs.Prelude.{◌≡◌, ◌≤◌, ◌↔◌, ℕ, None, IfOk, IsErr, OnOk, refl};
-ghost use Rattle.core_types.specs.Causes.{HasCause, Rose};
+ghost use Rattle.std.specs.Prelude.{◌≡◌, ◌≤◌, ◌↔◌, ℕ, Ok, Err, None, IfOk, IsErr, IsErrAnd};
+ghost use Rattle.std.specs.IoError.{error_kind};
+ghost use Rattle.core_types.specs.Causes.{one_more, HasCause, HasCauseFor};
+ghost use Rattle.disk_model.specs.declared.dir.ReadAllStop.TheVariants as stops;
 
 mod file;
 mod files;
 mod folder;
+mod link;
 mod synced;
 
 use crate::{Dir, DirFault, FileName, ReadAllStop};
 use core_types::{Blob, NoMemory};
-use files::RealFiles;
 use folder::RealFolder;
 use std::alloc::Global;
-use std::io;
+use std::fs::File;
+use std::io::{self, ErrorKind};
 use std::marker::Model;
 use std::path::PathBuf;
 use std::rt::Files;
 
 /// A folder of the file system, seen as the number of its faults. It tells no content.
+///
+/// From its first call on it holds a lock on the folder, until it is dropped. Where another process holds
+/// that, each call is a fault, and touches nothing.
 #[derive(Drop)]
 pub struct RealDir<R: Files> {
     rt: R,
     folder: RealFolder,
-    files: RealFiles<R>,
     faults: u64,
 }
 
@@ -33,18 +38,17 @@ impl<R: Files> Model for RealDir<R> {
     ghost view = { λ d. d.faults };
 }
 
-impl<R: Files + Drop> RealDir<R> {
+impl<R: Files<File = File> + Drop> RealDir<R> {
     /// The folder at this path, where the empty path is the folder that the program runs in. Nothing is
     /// opened yet: a folder that is not there shows at the first call.
     pub fn new(rt: R, alloc: Global, folder: &str) -> Result<RealDir<R>, NoMemory>
         ensures no_faults { IfOk result (λ dir. dir ≡ 0) }
     {
         let folder = if folder.is_empty() { "." } else { folder };
-        let folder = PathBuf::from_str(alloc, folder)?;
+        let path = PathBuf::from_str(alloc, folder)?;
         Ok(RealDir {
             rt,
-            files: RealFiles::new(alloc, folder.as_path())?,
-            folder: RealFolder::new(folder),
+            folder: RealFolder::new(alloc, path)?,
             faults: 0,
         })
     }
@@ -52,7 +56,6 @@ impl<R: Files + Drop> RealDir<R> {
     // Counts a fault where the call has failed, and there only.
     fn counted(&mut self, done: io::Result<()>) -> Result<(), DirFault>
         ensures fails { IsErr result ↔ IsErr done }
-        ensures ok { OnOk result (self.new ≡ self.old) }
         ensures cause { HasCause self.old self.new result }
     {
         match done {
@@ -61,9 +64,24 @@ impl<R: Files + Drop> RealDir<R> {
         }
     }
 
+    // Counts a fault where the read has failed, unless memory ran out.
+    fn counted_read(&mut self, read: io::Result<Option<Blob>>) -> Result<Option<Blob>, ReadAllStop>
+        ensures found { IfOk read (λ found. result ≡ Ok found) }
+        ensures fails { IsErr result ↔ IsErr read }
+        ensures memory { (result ≡ Err stops.Memory)
+            ↔ IsErrAnd read (λ error. error_kind error ≡ ErrorKind.OutOfMemory) }
+        ensures cause { HasCauseFor stops.Dir self.old self.new result }
+    {
+        match read {
+            Ok(found) => Ok(found),
+            Err(error) if error.kind() == ErrorKind::OutOfMemory => Err(ReadAllStop::Memory),
+            Err(_) => Err(ReadAllStop::from(self.fault())),
+        }
+    }
+
     // Counts a fault.
     fn fault(&mut self) -> DirFault
-        ensures rose { Rose self.old self.new }
+        ensures counted { self.new ≡ one_more self.old }
         ensures later { self.old ≤ self.new }
     {
         self.faults = self.faults.saturating_add(1);
@@ -71,46 +89,36 @@ impl<R: Files + Drop> RealDir<R> {
     }
 }
 
-impl<R: Files + Drop> Dir for RealDir<R> {
-    ghost files = { λ _. None };
-
-    ghost faults = { λ faults. faults };
-
-    ghost past = { λ _. None };
+impl<R: Files<File = File> + Drop> Dir for RealDir<R> {
+    ghost told = { λ faults. record { past = None; faults = faults } };
 
     fn read_all(&mut self, alloc: Global, name: FileName) -> Result<Option<Blob>, ReadAllStop> {
-        let file = self.files.named(name);
-        match file.read_all(&self.rt, alloc, &self.folder) {
-            Ok(found) => Ok(found),
-            Err(error) if error.kind() == io::ErrorKind::OutOfMemory => Err(ReadAllStop::Memory),
-            Err(_) => Err(ReadAllStop::from(self.fault())),
-        }
+        let read = self.folder.read_all(&self.rt, alloc, name);
+        self.counted_read(read)
     }
 
     fn append(&mut self, name: FileName, bytes: &[u8]) -> Result<(), DirFault> {
-        let done = self.files.named(name).append(&self.rt, bytes);
+        let done = self.folder.append(&self.rt, name, bytes);
         self.counted(done)
     }
 
     fn cut(&mut self, name: FileName, length: u64) -> Result<(), DirFault> {
-        let done = self.files.named(name).cut(&self.rt, length);
+        let done = self.folder.cut(&self.rt, name, length);
         self.counted(done)
     }
 
     fn sync(&mut self, name: FileName) -> Result<(), DirFault> {
-        let done = self.files.named(name).sync(&self.rt);
+        let done = self.folder.sync(&self.rt, name);
         self.counted(done)
     }
 
     fn create(&mut self, name: FileName) -> Result<(), DirFault> {
-        self.folder.change_names();
-        let done = self.files.named(name).create(&self.rt);
+        let done = self.folder.create(&self.rt, name);
         self.counted(done)
     }
 
     fn rename(&mut self, from: FileName, to: FileName) -> Result<(), DirFault> {
-        self.folder.change_names();
-        let done = self.files.rename(&self.rt, from, to);
+        let done = self.folder.rename(&self.rt, from, to);
         self.counted(done)
     }
 
@@ -118,8 +126,4 @@ impl<R: Files + Drop> Dir for RealDir<R> {
         let done = self.folder.sync_names(&self.rt);
         self.counted(done)
     }
-
-    ghost reads_now = { λ _. refl };
-
-    ghost sound = { λ _. tt };
 }

@@ -55,6 +55,7 @@ IsEntry-front bytes (entry.Bad place reason.NotMultibulk) some (inl other, zero_
 IsEntry-front bytes (entry.Bad place reason.NotMultibulk) some (inr empty, zero_is, any) = (array.Empty, empty, ap (λ (k : ℕ). entry.Bad k reason.NotMultibulk) (sym zero_is))
 IsEntry-front bytes (entry.Bad place reason.NotAnEffect) some bad = absurd bad
 IsEntry-front bytes (entry.Bad place reason.EffectRefused) some bad = absurd bad
+IsEntry-front bytes (entry.Bad place (reason.Rdb cause)) some bad = absurd bad
 IsEntry-front bytes (entry.Bad place reason.NestedMulti) some bad = absurd bad
 IsEntry-front bytes (entry.Bad place reason.LoneExec) some bad = absurd bad
 
@@ -71,6 +72,7 @@ IsEntry-none bytes (entry.Bad place (reason.Request kind)) none bad = absurd (om
 IsEntry-none bytes (entry.Bad place reason.NotMultibulk) none bad = absurd (omega (arith, bad.2))
 IsEntry-none bytes (entry.Bad place reason.NotAnEffect) none bad = absurd bad
 IsEntry-none bytes (entry.Bad place reason.EffectRefused) none bad = absurd bad
+IsEntry-none bytes (entry.Bad place (reason.Rdb cause)) none bad = absurd bad
 IsEntry-none bytes (entry.Bad place reason.NestedMulti) none bad = absurd bad
 IsEntry-none bytes (entry.Bad place reason.LoneExec) none bad = absurd bad
 

@@ -184,6 +184,7 @@ fault_read bytes reason.LoneExec at fault =
     inl record { first = entry.Exec closes.0; is = closes.1; other = refl; gives = ap (λ (k : ℕ). Broken reason.LoneExec k) fault.place_is }
 fault_read bytes reason.NotAnEffect at fault = absurd fault
 fault_read bytes reason.EffectRefused at fault = absurd fault
+fault_read bytes (reason.Rdb cause) at fault = absurd fault
 
 judged_read : (bytes : List ℕ) (judged : Judged) → IsJudged bytes judged → IsRead bytes judged
 judged_read bytes Nothing none = inl record { first = entry.Unfinished; is = inl none; other = refl; gives = rw none refl }

@@ -8,3 +8,4 @@ pub mod Replays
 pub mod GoesOn
 pub mod Stops
 pub mod OneReplay
+pub mod Shorter

@@ -4,6 +4,7 @@ use Rattle.std.specs.List.{AllByRecursion}
 use Rattle.std.proofs.lemmas.List.Concat.{flat_map-append}
 use Rattle.core_types.specs.Keys.{Keys, no_keys}
 use Rattle.effect_log.specs.declared.reason.Reason.{Reason}
+use Rattle.effect_log.specs.Refusal.{Refusal, reason_of}
 use Rattle.effect_log.specs.Log.{Unit, unit_bytes, units_bytes, IsUnit, HoldsUnits, BreaksAt}
 use Rattle.effect_log.specs.Replay.{Meaning, replayed, effects_of, Holds, RefusesEffect, IsRefused}
 use Rattle.effect_log.proofs.OneLog.{IsReadable, readable, holds_one, breaks_one, holds_unbroken}
@@ -12,10 +13,10 @@ use Rattle.effect_log.proofs.GoesOn.{HoldsUnits-join, BreaksAt-join}
 use Rattle.effect_log.proofs.Stops.{StopsIn, UnitsMakeOrStop, units_make_or_stop, stops_refuse, stops_one}
 
 -- the bytes hold these units, and what ends them
-abbrev HasUnits : List ℕ → List Unit → Type 0
+abbrev pub HasUnits : List ℕ → List Unit → Type 0
 HasUnits bytes units = ((kept : ℕ) × HoldsUnits bytes units kept) ⊎ ((why : Reason) × (at : ℕ) × BreaksAt bytes units why at)
 
-has_one : (bytes : List ℕ) (us vs : List Unit) → HasUnits bytes us → HasUnits bytes vs → us ≡ vs
+pub has_one : (bytes : List ℕ) (us vs : List Unit) → HasUnits bytes us → HasUnits bytes vs → us ≡ vs
 has_one bytes us vs (inl (kept, holds)) (inl (other, others)) = (holds_one bytes us vs kept other holds others).0
 has_one bytes us vs (inl (kept, holds)) (inr (why, at, breaks)) = absurd (holds_unbroken bytes us vs kept at why holds breaks)
 has_one bytes us vs (inr (why, at, breaks)) (inl (kept, holds)) = absurd (holds_unbroken bytes vs us kept at why holds breaks)
@@ -25,19 +26,19 @@ units_held : (us : List Unit) → AllByRecursion IsUnit us → HoldsUnits (units
 units_held us each = record { each = each; rest = []; whole = sym (append-nil (units_bytes us)); place = refl; torn = inl refl }
 
 -- whatever follows units, it is read on
-has_behind : (us : List Unit) (rest : List ℕ) → AllByRecursion IsUnit us → IsReadable rest → (more : List Unit) × HasUnits (units_bytes us ++ rest) (us ++ more)
+pub has_behind : (us : List Unit) (rest : List ℕ) → AllByRecursion IsUnit us → IsReadable rest → (more : List Unit) × HasUnits (units_bytes us ++ rest) (us ++ more)
 has_behind us rest each (inl (more, kept, holds)) =
     (more, inl (length (units_bytes us) + kept, HoldsUnits-join (units_bytes us) rest us more kept (units_held us each) holds))
 has_behind us rest each (inr (more, why, at, breaks)) =
     (more, inr (why, length (units_bytes us) + at, BreaksAt-join (units_bytes us) rest us more why at (units_held us each) breaks))
 
 -- the units of a log, one of whose effects is refused
-record IsStopped (replay : Meaning) (bytes : List ℕ) (why : Reason) (at : ℕ) : Type 0 where
+record IsStopped (replay : Meaning) (bytes : List ℕ) (why : Refusal) (at : ℕ) : Type 0 where
   all : List Unit
   has : HasUnits bytes all
   stops : StopsIn replay no_keys all why at
 
-stopped : (replay : Meaning) (bytes : List ℕ) (why : Reason) (at : ℕ) → RefusesEffect replay bytes why at → IsStopped replay bytes why at
+stopped : (replay : Meaning) (bytes : List ℕ) (why : Reason) (at : ℕ) → (r : RefusesEffect replay bytes why at) → IsStopped replay bytes r.refused.refusal at
 stopped replay bytes why at r =
     let front = r.units ++ r.next ∷ [] in
     let found = has_behind front r.rest (each-push r.units r.next r.each r.is_unit) (readable r.rest) in
@@ -55,7 +56,7 @@ stopped replay bytes why at r =
         whole = append_assoc r.units (r.next ∷ []) found.0;
         there = r.there;
         before = r.before;
-        refused = r.refused;
+        refused = r.refused.nothing;
         place = r.place;
       };
     }
@@ -66,7 +67,7 @@ AllByRecursion-front (u ∷ us) vs each =
     let parts = AllByRecursion-front us vs each.1 in
     ((each.0, parts.0), parts.1)
 
-refuses : (replay : Meaning) (bytes : List ℕ) (all : List Unit) (rest : List ℕ) (why : Reason) (at : ℕ) → AllByRecursion IsUnit all → bytes ≡ units_bytes all ++ rest → StopsIn replay no_keys all why at → RefusesEffect replay bytes why at
+refuses : (replay : Meaning) (bytes : List ℕ) (all : List Unit) (rest : List ℕ) (why : Refusal) (at : ℕ) → AllByRecursion IsUnit all → bytes ≡ units_bytes all ++ rest → StopsIn replay no_keys all why at → RefusesEffect replay bytes (reason_of why) at
 refuses replay bytes all rest why at each whole stop =
     let parts = AllByRecursion-front stop.units (stop.next ∷ stop.more) (subst (λ (us : List Unit). AllByRecursion IsUnit us) stop.whole each) in
     let front = units_bytes stop.units in
@@ -85,7 +86,7 @@ refuses replay bytes all rest why at each whole stop =
       whole = whole ∙ ap (λ (bs : List ℕ). bs ++ rest) (split ∙ sym (append_assoc front next more)) ∙ append_assoc (front ++ next) more rest;
       there = stop.there;
       before = stop.before;
-      refused = stop.refused;
+      refused = record { refusal = why; nothing = stop.refused; reason = refl };
       place = stop.place;
     }
 
@@ -94,11 +95,11 @@ HasOutcome replay bytes = ((keys : Keys) × (kept : ℕ) × Holds replay bytes k
 
 held_outcome : (replay : Meaning) (bytes : List ℕ) (units : List Unit) (kept : ℕ) → HoldsUnits bytes units kept → UnitsMakeOrStop replay no_keys units → HasOutcome replay bytes
 held_outcome replay bytes units kept holds (inl (keys, makes)) = inl (keys, kept, record { units = units; holds = holds; makes = makes })
-held_outcome replay bytes units kept holds (inr (why, at, stop)) = inr (why, at, inl (refuses replay bytes units holds.rest why at holds.each holds.whole stop))
+held_outcome replay bytes units kept holds (inr (why, at, stop)) = inr (reason_of why, at, inl (refuses replay bytes units holds.rest why at holds.each holds.whole stop))
 
 broken_outcome : (replay : Meaning) (bytes : List ℕ) (units : List Unit) (why : Reason) (at : ℕ) → BreaksAt bytes units why at → UnitsMakeOrStop replay no_keys units → HasOutcome replay bytes
 broken_outcome replay bytes units why at breaks (inl (keys, makes)) = inr (why, at, inr record { units = units; keys = keys; breaks = breaks; before = makes })
-broken_outcome replay bytes units why at breaks (inr (other, place, stop)) = inr (other, place, inl (refuses replay bytes units breaks.rest other place breaks.each breaks.whole stop))
+broken_outcome replay bytes units why at breaks (inr (other, place, stop)) = inr (reason_of other, place, inl (refuses replay bytes units breaks.rest other place breaks.each breaks.whole stop))
 
 read_outcome : (replay : Meaning) (bytes : List ℕ) → IsReadable bytes → HasOutcome replay bytes
 read_outcome replay bytes (inl (units, kept, holds)) = held_outcome replay bytes units kept holds (units_make_or_stop replay no_keys units)
@@ -119,7 +120,7 @@ makes_all : (replay : Meaning) (bytes : List ℕ) (units : List Unit) (keys : Ke
 makes_all replay bytes units keys why at has makes refused =
     let stop = stopped replay bytes why at refused in
     let same = has_one bytes units stop.all has stop.has in
-    let both : Ok keys ≡ Err why = sym makes ∙ ap (λ (us : List Unit). replayed replay no_keys (effects_of us)) same ∙ stops_refuse replay no_keys stop.all why at stop.stops in
+    let both : Ok keys ≡ Err refused.refused.refusal = sym makes ∙ ap (λ (us : List Unit). replayed replay no_keys (effects_of us)) same ∙ stops_refuse replay no_keys stop.all refused.refused.refusal at stop.stops in
     absurd cc
 
 effect_one : (replay : Meaning) (bytes : List ℕ) (why other : Reason) (at place : ℕ) → RefusesEffect replay bytes why at → RefusesEffect replay bytes other place → (why ≡ other) × (at ≡ place)
@@ -127,7 +128,10 @@ effect_one replay bytes why other at place first second =
     let a = stopped replay bytes why at first in
     let b = stopped replay bytes other place second in
     let same = has_one bytes b.all a.all b.has a.has in
-    stops_one replay no_keys a.all why other at place a.stops (subst (λ (us : List Unit). StopsIn replay no_keys us other place) same b.stops)
+    let one = first.refused.refusal in
+    let two = second.refused.refusal in
+    let both = stops_one replay no_keys a.all one two at place a.stops (subst (λ (us : List Unit). StopsIn replay no_keys us two place) same b.stops) in
+    (first.refused.reason ∙ ap reason_of both.0 ∙ sym second.refused.reason, both.1)
 
 pub IsRefused-one : (replay : Meaning) (bytes : List ℕ) (why other : Reason) (at place : ℕ) → IsRefused replay bytes why at → IsRefused replay bytes other place → (why ≡ other) × (at ≡ place)
 IsRefused-one replay bytes why other at place (inl a) (inl b) = effect_one replay bytes why other at place a b

@@ -155,6 +155,7 @@ FaultAt-so_far bytes offset effects starts place reason.NotMultibulk at so_far b
 )
 FaultAt-so_far bytes offset effects starts place reason.NotAnEffect at so_far bad = absurd bad
 FaultAt-so_far bytes offset effects starts place reason.EffectRefused at so_far bad = absurd bad
+FaultAt-so_far bytes offset effects starts place (reason.Rdb cause) at so_far bad = absurd bad
 FaultAt-so_far bytes offset effects starts place reason.NestedMulti at so_far bad = absurd bad
 FaultAt-so_far bytes offset effects starts place reason.LoneExec at so_far bad = absurd bad
 
@@ -180,5 +181,6 @@ FaultAt-first bytes reason.NotMultibulk at bad =
     (record { before = []; rest = bytes; due = inl refl; none = bad.0; whole = refl; place_is = bad.1 }, omega (arith, bad.1, bad.2))
 FaultAt-first bytes reason.NotAnEffect at bad = absurd bad
 FaultAt-first bytes reason.EffectRefused at bad = absurd bad
+FaultAt-first bytes (reason.Rdb cause) at bad = absurd bad
 FaultAt-first bytes reason.NestedMulti at bad = absurd bad
 FaultAt-first bytes reason.LoneExec at bad = absurd bad

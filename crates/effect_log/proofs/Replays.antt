@@ -4,12 +4,12 @@ use Rattle.std.specs.List.{AllByRecursion}
 use Rattle.std.proofs.lemmas.List.Concat.{flat_map-append}
 use Rattle.core_types.specs.Keys.{Keys}
 use Rattle.core_types.specs.declared.effect.Effect.{Effect}
-use Rattle.effect_log.specs.declared.reason.Reason.{Reason}
+use Rattle.effect_log.specs.Refusal.{Refusal}
 use Rattle.effect_log.specs.Unit.{effect_text}
 use Rattle.effect_log.specs.Log.{Unit, unit_bytes, units_bytes, effects_text, IsUnit}
 use Rattle.effect_log.specs.Replay.{Meaning, and_then, replayed, effects_of}
 
-after-first : (replay : Meaning) (e : Effect) (es fs : List Effect) (keys : Keys) (r : Result Keys Reason) → replay keys e ≡ r
+after-first : (replay : Meaning) (e : Effect) (es fs : List Effect) (keys : Keys) (r : Result Keys Refusal) → replay keys e ≡ r
     → ((then : Keys) → replayed replay then (es ++ fs) ≡ and_then (replayed replay then es) (λ k. replayed replay k fs))
     → replayed replay keys (e ∷ es ++ fs) ≡ and_then (replayed replay keys (e ∷ es)) (λ k. replayed replay k fs)
 after-first replay e es fs keys (Ok then) is more = rw is (more then)
@@ -22,7 +22,7 @@ replayed-append replay keys (e ∷ es) fs = after-first replay e es fs keys (rep
 
 -- the same, where the first make some keys
 pub replayed-on : (replay : Meaning) (keys then : Keys) (es fs : List Effect) → replayed replay keys es ≡ Ok then → replayed replay keys (es ++ fs) ≡ replayed replay then fs
-replayed-on replay keys then es fs made = replayed-append replay keys es fs ∙ ap (λ (r : Result Keys Reason). and_then r (λ k. replayed replay k fs)) made
+replayed-on replay keys then es fs made = replayed-append replay keys es fs ∙ ap (λ (r : Result Keys Refusal). and_then r (λ k. replayed replay k fs)) made
 
 -- a unit more
 pub units_bytes-push : (units : List Unit) (u : Unit) → units_bytes (units ++ u ∷ []) ≡ units_bytes units ++ unit_bytes u

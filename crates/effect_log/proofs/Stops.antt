@@ -6,13 +6,13 @@ use Rattle.std.proofs.lemmas.List.Concat.{flat_map-append}
 use Rattle.std.proofs.lemmas.Option.{none-some, same_Some, slice_get_within}
 use Rattle.core_types.specs.Keys.{Keys}
 use Rattle.core_types.specs.declared.effect.Effect.{Effect}
-use Rattle.effect_log.specs.declared.reason.Reason.{Reason}
+use Rattle.effect_log.specs.Refusal.{Refusal}
 use Rattle.effect_log.specs.Log.{Unit, unit_bytes, units_bytes, effect_start}
 use Rattle.effect_log.specs.Replay.{Meaning, and_then, replayed, effects_of}
 use Rattle.effect_log.proofs.Replays.{replayed-on}
 
 -- behind effects that make some keys, this one of them makes nothing of these
-record StopsAt (replay : Meaning) (keys : Keys) (effects : List Effect) (count : ℕ) (why : Reason) : Type 0 where
+record StopsAt (replay : Meaning) (keys : Keys) (effects : List Effect) (count : ℕ) (why : Refusal) : Type 0 where
   effect : Effect
   then : Keys
   there : slice_get effects count ≡ Some effect
@@ -20,18 +20,18 @@ record StopsAt (replay : Meaning) (keys : Keys) (effects : List Effect) (count :
   refused : replay then effect ≡ Err why
 
 abbrev MakesOrStops : Meaning → Keys → List Effect → Type 0
-MakesOrStops replay keys effects = ((then : Keys) × (replayed replay keys effects ≡ Ok then)) ⊎ ((count : ℕ) × (why : Reason) × StopsAt replay keys effects count why)
+MakesOrStops replay keys effects = ((then : Keys) × (replayed replay keys effects ≡ Ok then)) ⊎ ((count : ℕ) × (why : Refusal) × StopsAt replay keys effects count why)
 
 -- an effect in front that makes some keys
 made_first : (replay : Meaning) (keys then : Keys) (e : Effect) (es : List Effect) → replay keys e ≡ Ok then → replayed replay keys (e ∷ es) ≡ replayed replay then es
-made_first replay keys then e es is = ap (λ (r : Result Keys Reason). and_then r (λ k. replayed replay k es)) is
+made_first replay keys then e es is = ap (λ (r : Result Keys Refusal). and_then r (λ k. replayed replay k es)) is
 
 stops_later : (replay : Meaning) (keys then : Keys) (e : Effect) (es : List Effect) → replay keys e ≡ Ok then → MakesOrStops replay then es → MakesOrStops replay keys (e ∷ es)
 stops_later replay keys then e es is (inl (last, made)) = inl (last, made_first replay keys then e es is ∙ made)
 stops_later replay keys then e es is (inr (count, why, stop)) =
     inr (suc count, why, record { effect = stop.effect; then = stop.then; there = stop.there; before = made_first replay keys then e (take count es) is ∙ stop.before; refused = stop.refused })
 
-stops_first : (replay : Meaning) (keys : Keys) (e : Effect) (es : List Effect) (r : Result Keys Reason) → replay keys e ≡ r → ((then : Keys) → MakesOrStops replay then es) → MakesOrStops replay keys (e ∷ es)
+stops_first : (replay : Meaning) (keys : Keys) (e : Effect) (es : List Effect) (r : Result Keys Refusal) → replay keys e ≡ r → ((then : Keys) → MakesOrStops replay then es) → MakesOrStops replay keys (e ∷ es)
 stops_first replay keys e es (Ok then) is go_on = stops_later replay keys then e es is (go_on then)
 stops_first replay keys e es (Err why) is go_on = inr (0, why, record { effect = e; then = keys; there = refl; before = refl; refused = is })
 
@@ -39,23 +39,23 @@ makes_or_stops : (replay : Meaning) (keys : Keys) (es : List Effect) → MakesOr
 makes_or_stops replay keys [] = inl (keys, refl)
 makes_or_stops replay keys (e ∷ es) = stops_first replay keys e es (replay keys e) refl (λ then. makes_or_stops replay then es)
 
-and_then-ok : (r : Result Keys Reason) (next : Keys → Result Keys Reason) (keys : Keys) → and_then r next ≡ Ok keys → (then : Keys) × (r ≡ Ok then) × (next then ≡ Ok keys)
+and_then-ok : (r : Result Keys Refusal) (next : Keys → Result Keys Refusal) (keys : Keys) → and_then r next ≡ Ok keys → (then : Keys) × (r ≡ Ok then) × (next then ≡ Ok keys)
 and_then-ok (Ok then) next keys is = (then, refl, is)
 and_then-ok (Err why) next keys is = absurd cc
 
 -- nothing is made behind an effect that makes nothing
-refused_behind : (replay : Meaning) (keys then : Keys) (done more : List Effect) (e : Effect) (why : Reason) → replayed replay keys done ≡ Ok then → replay then e ≡ Err why → replayed replay keys (done ++ e ∷ more) ≡ Err why
+refused_behind : (replay : Meaning) (keys then : Keys) (done more : List Effect) (e : Effect) (why : Refusal) → replayed replay keys done ≡ Ok then → replay then e ≡ Err why → replayed replay keys (done ++ e ∷ more) ≡ Err why
 refused_behind replay keys then done more e why made refused =
-    replayed-on replay keys then done (e ∷ more) made ∙ ap (λ (r : Result Keys Reason). and_then r (λ k. replayed replay k more)) refused
+    replayed-on replay keys then done (e ∷ more) made ∙ ap (λ (r : Result Keys Refusal). and_then r (λ k. replayed replay k more)) refused
 
-no_later : (replay : Meaning) (keys last : Keys) (e f : Effect) (es : List Effect) (why : Reason) → e ≡ f → replay keys e ≡ Err why → ¬ (replayed replay keys (f ∷ es) ≡ Ok last)
+no_later : (replay : Meaning) (keys last : Keys) (e f : Effect) (es : List Effect) (why : Refusal) → e ≡ f → replay keys e ≡ Err why → ¬ (replayed replay keys (f ∷ es) ≡ Ok last)
 no_later replay keys last e f es why same refused made =
     let first = and_then-ok (replay keys f) (λ k. replayed replay k es) last made in
     let is : replay keys e ≡ Ok first.0 = ap (λ (x : Effect). replay keys x) same ∙ first.1 in
     absurd cc
 
 -- there is one first effect that makes nothing
-first_one : (replay : Meaning) (keys a b : Keys) (done other more others : List Effect) (e f : Effect) (why reason : Reason) → replayed replay keys done ≡ Ok a → replay a e ≡ Err why → replayed replay keys other ≡ Ok b → replay b f ≡ Err reason → done ++ e ∷ more ≡ other ++ f ∷ others →
+first_one : (replay : Meaning) (keys a b : Keys) (done other more others : List Effect) (e f : Effect) (why reason : Refusal) → replayed replay keys done ≡ Ok a → replay a e ≡ Err why → replayed replay keys other ≡ Ok b → replay b f ≡ Err reason → done ++ e ∷ more ≡ other ++ f ∷ others →
     length done ≡ length other
 first_one replay keys a b [] [] more others e f why reason made_a refused_a made_b refused_b same = refl
 first_one replay keys a b [] (g ∷ other) more others e f why reason made_a refused_a made_b refused_b same =
@@ -78,7 +78,7 @@ first_one replay keys a b (d ∷ done) (g ∷ other) more others e f why reason 
 
 -- Behind effects of units that make some keys, one of a unit makes nothing of these. It begins at this place
 -- of the units' bytes.
-pub record StopsIn (replay : Meaning) (keys : Keys) (all : List Unit) (why : Reason) (at : ℕ) : Type 0 where
+pub record StopsIn (replay : Meaning) (keys : Keys) (all : List Unit) (why : Refusal) (at : ℕ) : Type 0 where
   pub units : List Unit
   pub next : Unit
   pub more : List Unit
@@ -92,9 +92,9 @@ pub record StopsIn (replay : Meaning) (keys : Keys) (all : List Unit) (why : Rea
   pub place : at ≡ length (units_bytes units) + effect_start next count
 
 abbrev pub UnitsMakeOrStop : Meaning → Keys → List Unit → Type 0
-UnitsMakeOrStop replay keys units = ((then : Keys) × (replayed replay keys (effects_of units) ≡ Ok then)) ⊎ ((why : Reason) × (at : ℕ) × StopsIn replay keys units why at)
+UnitsMakeOrStop replay keys units = ((then : Keys) × (replayed replay keys (effects_of units) ≡ Ok then)) ⊎ ((why : Refusal) × (at : ℕ) × StopsIn replay keys units why at)
 
-stops_here : (replay : Meaning) (keys : Keys) (u : Unit) (us : List Unit) (count : ℕ) (why : Reason) → StopsAt replay keys u.effects count why → StopsIn replay keys (u ∷ us) why (effect_start u count)
+stops_here : (replay : Meaning) (keys : Keys) (u : Unit) (us : List Unit) (count : ℕ) (why : Refusal) → StopsAt replay keys u.effects count why → StopsIn replay keys (u ∷ us) why (effect_start u count)
 stops_here replay keys u us count why stop = record {
   units = [];
   next = u;
@@ -109,7 +109,7 @@ stops_here replay keys u us count why stop = record {
   place = omega arith;
 }
 
-stops_behind : (replay : Meaning) (keys then : Keys) (u : Unit) (us : List Unit) (why : Reason) (at : ℕ) → replayed replay keys u.effects ≡ Ok then → StopsIn replay then us why at → StopsIn replay keys (u ∷ us) why (length (unit_bytes u) + at)
+stops_behind : (replay : Meaning) (keys then : Keys) (u : Unit) (us : List Unit) (why : Refusal) (at : ℕ) → replayed replay keys u.effects ≡ Ok then → StopsIn replay then us why at → StopsIn replay keys (u ∷ us) why (length (unit_bytes u) + at)
 stops_behind replay keys then u us why at made stop =
     let last = take stop.count stop.next.effects in
     record {
@@ -145,7 +145,7 @@ split_at (f ∷ es) zero e there = ap (λ (x : Effect). x ∷ es) (same_Some f e
 split_at (f ∷ es) (suc n) e there = ap (λ (xs : List Effect). f ∷ xs) (split_at es n e there)
 
 -- the effects of the units, those before it and those behind it
-effects_split : (replay : Meaning) (keys : Keys) (all : List Unit) (why : Reason) (at : ℕ) → (stop : StopsIn replay keys all why at) →
+effects_split : (replay : Meaning) (keys : Keys) (all : List Unit) (why : Refusal) (at : ℕ) → (stop : StopsIn replay keys all why at) →
     effects_of all ≡ (effects_of stop.units ++ take stop.count stop.next.effects) ++ stop.effect ∷ (drop (suc stop.count) stop.next.effects ++ effects_of stop.more)
 effects_split replay keys all why at stop =
     let front = effects_of stop.units in
@@ -158,7 +158,7 @@ effects_split replay keys all why at stop =
     ∙ sym (append_assoc front done (stop.effect ∷ left ++ more))
 
 -- units one of whose effects makes nothing make nothing
-pub stops_refuse : (replay : Meaning) (keys : Keys) (all : List Unit) (why : Reason) (at : ℕ) → StopsIn replay keys all why at → replayed replay keys (effects_of all) ≡ Err why
+pub stops_refuse : (replay : Meaning) (keys : Keys) (all : List Unit) (why : Refusal) (at : ℕ) → StopsIn replay keys all why at → replayed replay keys (effects_of all) ≡ Err why
 stops_refuse replay keys all why at stop =
     ap (λ (es : List Effect). replayed replay keys es) (effects_split replay keys all why at stop)
     ∙ refused_behind replay keys stop.then (effects_of stop.units ++ take stop.count stop.next.effects) (drop (suc stop.count) stop.next.effects ++ effects_of stop.more) stop.effect why stop.before stop.refused
@@ -187,7 +187,7 @@ count_done units next count within =
     omega (arith, length-append (effects_of units) (take count next.effects), length-take-le count next.effects (omega arith))
 
 -- one effect of units is the first that makes nothing
-pub stops_one : (replay : Meaning) (keys : Keys) (all : List Unit) (why other : Reason) (at place : ℕ) → StopsIn replay keys all why at → StopsIn replay keys all other place → (why ≡ other) × (at ≡ place)
+pub stops_one : (replay : Meaning) (keys : Keys) (all : List Unit) (why other : Refusal) (at place : ℕ) → StopsIn replay keys all why at → StopsIn replay keys all other place → (why ≡ other) × (at ≡ place)
 stops_one replay keys all why other at place a b =
     let reasons : Err why ≡ Err other = sym (stops_refuse replay keys all why at a) ∙ stops_refuse replay keys all other place b in
     let within_a : a.count < length a.next.effects = slice_get_within a.next.effects a.count a.effect a.there in

@@ -40,6 +40,7 @@ IsBadFront bytes reason.NotAnEffect place = ⊥
 IsBadFront bytes reason.EffectRefused place = ⊥
 IsBadFront bytes reason.NestedMulti place = ⊥
 IsBadFront bytes reason.LoneExec place = ⊥
+IsBadFront bytes (reason.Rdb cause) place = ⊥
 
 -- what was found at the front of the bytes is so
 abbrev pub IsEntry : List ℕ → Entry → Type 0

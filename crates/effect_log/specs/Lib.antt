@@ -4,4 +4,5 @@ pub mod Reading
 pub mod Written
 pub mod Entry
 pub mod Front
+pub mod Refusal
 pub mod Replay

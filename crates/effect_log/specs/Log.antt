@@ -117,7 +117,7 @@ pub record IsLoneExec (bytes : List ℕ) (at : ℕ) : Type 0 where
   pub closes : BeginsNamed exec bytes
   pub place_is : at ≡ 0
 
--- The first fault of form of what begins a unit here: its reason, and where it stands. The last two
+-- The first fault of form of what begins a unit here: its reason, and where it stands. The last three
 -- reasons are no faults of form.
 abbrev pub FaultAt : List ℕ → Reason → ℕ → Type 0
 FaultAt bytes (reason.Request kind) at = IsBadRequest bytes kind at
@@ -126,6 +126,7 @@ FaultAt bytes reason.NestedMulti at = IsNested bytes at
 FaultAt bytes reason.LoneExec at = IsLoneExec bytes at
 FaultAt bytes reason.NotAnEffect at = ⊥
 FaultAt bytes reason.EffectRefused at = ⊥
+FaultAt bytes (reason.Rdb cause) at = ⊥
 
 -- the bytes of units, one after the other
 abbrev pub units_bytes : List Unit → List ℕ

@@ -4,19 +4,26 @@ use Rattle.std.specs.List.{AllByRecursion, flat_map}
 use Rattle.core_types.specs.Keys.{Keys, no_keys}
 use Rattle.core_types.specs.declared.effect.Effect.{Effect}
 use Rattle.effect_log.specs.declared.reason.Reason.{Reason}
+use Rattle.effect_log.specs.Refusal.{Refusal, reason_of}
 use Rattle.effect_log.specs.Log.{Unit, unit_bytes, units_bytes, effect_start, IsUnit, HoldsUnits, BreaksAt}
 
 -- what replaying an effect makes of some keys, or why it makes nothing of them
 abbrev pub Meaning : Type 0
-Meaning = Keys → Effect → Result Keys Reason
+Meaning = Keys → Effect → Result Keys Refusal
+
+-- an effect makes nothing of some keys, for this reason
+pub record Refuses (replay : Meaning) (keys : Keys) (effect : Effect) (why : Reason) : Type 0 where
+  pub refusal : Refusal
+  pub nothing : replay keys effect ≡ Err refusal
+  pub reason : why ≡ reason_of refusal
 
 -- an effect after others
-abbrev pub and_then : Result Keys Reason → (Keys → Result Keys Reason) → Result Keys Reason
+abbrev pub and_then : Result Keys Refusal → (Keys → Result Keys Refusal) → Result Keys Refusal
 and_then (Ok keys) next = next keys
 and_then (Err why) next = Err why
 
 -- effects in order, up to the first that makes nothing of the keys
-abbrev pub replayed : Meaning → Keys → List Effect → Result Keys Reason
+abbrev pub replayed : Meaning → Keys → List Effect → Result Keys Refusal
 replayed replay keys [] = Ok keys
 replayed replay keys (effect ∷ more) = and_then (replay keys effect) (λ then. replayed replay then more)
 
@@ -44,7 +51,7 @@ pub record RefusesEffect (replay : Meaning) (bytes : List ℕ) (why : Reason) (a
   pub whole : bytes ≡ units_bytes units ++ unit_bytes next ++ rest
   pub there : slice_get next.effects count ≡ Some effect
   pub before : replayed replay no_keys (effects_of units ++ take count next.effects) ≡ Ok keys
-  pub refused : replay keys effect ≡ Err why
+  pub refused : Refuses replay keys effect why
   pub place : at ≡ length (units_bytes units) + effect_start next count
 
 -- Behind units whose effects make some keys, the bytes have a fault of form.

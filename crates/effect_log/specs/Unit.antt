@@ -27,6 +27,10 @@ abbrev pub is_named : List ℕ → List (List ℕ) → Bool
 is_named name [] = false
 is_named name (word ∷ words) = str_eq_ignore_ascii_case word name
 
+-- an effect that can be replayed: its words are those of a request
+abbrev pub IsReplayable : Effect → Type 0
+IsReplayable effect = IsRequest effect.words
+
 -- an effect that a log can hold: a request that neither opens nor closes a unit
 pub record IsLoggable (effect : Effect) : Type 0 where
   pub request : IsRequest effect.words

@@ -1,6 +1,6 @@
 //! Why a log is refused.
 
-use core_types::BadRequest;
+use core_types::{BadRequest, RdbCause};
 
 /// Why a log is refused, by its first fault.
 #[derive(Clone, Copy, Debug, PartialEq, Eq)]
@@ -17,4 +17,6 @@ pub enum Reason {
     NestedMulti,
     /// An EXEC without a MULTI before it.
     LoneExec,
+    /// A front or a dump that is none, by RDB version 9.
+    Rdb(RdbCause),
 }

@@ -1,34 +1,34 @@
 //! What a log is replayed into.
 
-ghost use Rattle.std.specs.Prelude.{◌≡◌, ◌<◌, ◌++◌, ◌⊎◌, List, ℕ, length, take, Ok, Err, OnOk, OnErr};
+ghost use Rattle.std.specs.Prelude.{◌≡◌, ◌<◌, ◌≤◌, ◌++◌, ◌⊎◌, List, ℕ, Bool, true, length, take, Ok, Err, OnOk, OnErr};
 ghost use Rattle.std.specs.List.{AllByRecursion};
 ghost use Rattle.core_types.specs.Keys.{Keys};
 ghost use Rattle.core_types.specs.declared.effect.Effect.{Effect};
-ghost use Rattle.resp_codec.specs.Spelling.{IsRequest};
-ghost use Rattle.effect_log.specs.Unit.{unit, IsLoggable};
+ghost use Rattle.core_types.specs.declared.stop.Stop.TheVariants as stop;
+ghost use Rattle.effect_log.specs.Unit.{unit, IsLoggable, IsReplayable};
 ghost use Rattle.effect_log.specs.Written.{AreLoggable, effects_in, log_text};
-ghost use Rattle.effect_log.specs.Replay.{Meaning, replayed, Holds, IsRefused};
+ghost use Rattle.effect_log.specs.Replay.{Meaning, Refuses, replayed, Holds, IsRefused};
 ghost use Rattle.effect_log.specs.declared.reason.Reason.{Reason};
 ghost use Rattle.effect_log.specs.declared.replayer.ReplayStop.TheVariants as stops;
 
 use crate::reason::Reason;
-use core_types::{Effect, NoMemory};
+use core_types::{Effect, NoMemory, Stop};
 use std::alloc::Global;
 
-/// Why an effect was not replayed.
+/// Why something of a log was not replayed.
 #[derive(Clone, Copy, Debug, PartialEq, Eq)]
 pub enum ReplayStop {
-    /// It makes nothing of the keys, and why.
-    Refused(Reason),
-    /// Memory ran out.
-    Memory,
+    /// It makes nothing of the keys: the place in it that shows this, and why. The place of an effect is 0.
+    Refused(u64, Reason),
+    /// The replayer could not go on.
+    Stopped(Stop),
 }
 
 impl From<NoMemory> for ReplayStop {
-    ghost from_gives = { λ _ stop. stop ≡ stops.Memory };
+    ghost from_gives = { λ _ end. end ≡ stops.Stopped stop.Memory };
 
     fn from(_: NoMemory) -> ReplayStop {
-        ReplayStop::Memory
+        ReplayStop::Stopped(Stop::Memory)
     }
 }
 
@@ -40,11 +40,16 @@ pub trait Replayer {
     /// What replaying an effect makes of some keys.
     ghost meaning: { Meaning };
 
+    /// Whether one of its counters of 64 bits stands at its end.
+    ghost is_spent: { Self → Bool };
+
     /// Replays one effect. An `Err` leaves the keys as they were.
     fn replay(&mut self, alloc: Global, effect: &Effect) -> Result<(), ReplayStop>
-        requires { IsRequest effect.now.words }
+        requires { IsReplayable effect.now }
         ensures ok { OnOk result (meaning (keys self.old) effect.now ≡ Ok (keys self.new)) }
-        ensures refused { (why : Reason) → result ≡ Err (stops.Refused why) → meaning (keys self.old) effect.now ≡ Err why }
+        ensures refused { (place : ℕ) (why : Reason) → result ≡ Err (stops.Refused place why)
+            → (place ≡ 0) × Refuses meaning (keys self.old) effect.now why }
+        ensures spent { result ≡ Err (stops.Stopped stop.NumbersSpent) → is_spent self.new ≡ true }
         ensures err { OnErr result (keys self.new ≡ keys self.old) };
 }
 
@@ -61,12 +66,14 @@ pub fn one_replay()
         → Holds replay bytes keys kept → ¬ IsRefused replay bytes why at }
 {}
 
-/// A log that stands for keys goes on: without its torn unit it stands for the same keys, and with the units
+/// A log that stands for keys goes on: cut behind its units it stands for the same keys, and with the units
 /// of more events behind it for what their effects make of these. A last unit of which a part is missing
 /// changes nothing.
 pub fn log_goes_on()
     ensures kept { (replay : Meaning) (bytes : List ℕ) (keys : Keys) (kept : ℕ) → Holds replay bytes keys kept
         → Holds replay (take kept bytes) keys (length (take kept bytes)) }
+    ensures cut { (replay : Meaning) (bytes : List ℕ) (keys : Keys) (kept count : ℕ) → Holds replay bytes keys kept
+        → kept ≤ count → Holds replay (take count bytes) keys kept }
     ensures more { (replay : Meaning) (bytes : List ℕ) (keys then : Keys) (events : List (List Effect))
         → Holds replay bytes keys (length bytes) → AreLoggable events → replayed replay keys (effects_in events) ≡ Ok then
         → Holds replay (bytes ++ log_text events) then (length (bytes ++ log_text events)) }

@@ -1,9 +1,10 @@
 -- The effects of a request make again what the request made of the keys.
 use Rattle.std.proofs.Common.{◌≡◌, ◌≢◌, ◌⊎◌, ℕ, zero, suc, ◌+◌, ◌-◌, ◌<◌, ◌≤◌, Bool, true, false, cond, List, [], ◌∷◌, length, drop, get_or, Option, Some, None, Ok, Err, refl, sym, ap, ◌∙◌, inl, inr, arith, eqb-true}
 use Rattle.std.proofs.lemmas.Bool.{cond-true, leb-true, le-leb, lt-leb, ne_eqb}
+use Rattle.core_types.specs.declared.value.Value.TheVariants.{Str}
 use Rattle.core_types.specs.Keys.{Keys, with_value, key_count}
 use Rattle.core_types.specs.declared.effect.Effect.{Effect}
-use Rattle.effect_log.specs.declared.reason.Reason.TheVariants.{EffectRefused}
+use Rattle.effect_log.specs.Refusal.{EffectRefused}
 use Rattle.effect_log.specs.Replay.{replayed, and_then}
 use Rattle.modhost.specs.declared.command.Command.{Command}
 use Rattle.modhost.specs.declared.command.Command.TheVariants.{Ping, Set, Get, Del, Quit}
@@ -32,7 +33,7 @@ module _ (keys : Keys) (words : List (List ℕ)) (name : List ℕ) (command : Co
       ∙ ap left_by (does-refused keys name command words some is named not_taken)
 
 pub replay-Set : (keys : Keys) (words : List (List ℕ)) (name key value : List ℕ) → length words ≡ 3 → name ≡ get_or words 0 name → command_named name ≡ Some Set → key ≡ get_or words 1 key → value ≡ get_or words 2 value
-    → replay keys (record { words = words }) ≡ Ok (with_value keys key value)
+    → replay keys (record { words = words }) ≡ Ok (with_value keys key (Str value))
 replay-Set keys words name key value three is named k v =
     replay-runs keys words name Set (omega (arith, three)) is named refl (rw three refl) ∙ ap left_by (run-Set keys words key value three k v)
 

@@ -14,4 +14,3 @@ pub mod KeyCount
 pub mod Loggable
 pub mod Effects
 pub mod Replayed
-pub mod SecondRun

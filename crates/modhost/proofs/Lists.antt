@@ -4,10 +4,11 @@ use Rattle.std.specs.List.{list_any}
 use Rattle.std.proofs.lemmas.List.{append-nil}
 use Rattle.std.proofs.lemmas.List.Folds.{list_any-append}
 use Rattle.core_types.specs.Keys.{Keys}
+use Rattle.resp_codec.specs.Requests.{quits}
 use Rattle.resp_codec.specs.ReplyText.{text}
 use Rattle.effect_log.specs.Unit.{unit}
 use Rattle.modhost.specs.Does.{does}
-use Rattle.modhost.specs.Run.{keys_after, replies, units, quits}
+use Rattle.modhost.specs.Run.{keys_after, replies, units}
 
 pub keys_after_push : (rs : List (List (List ℕ))) (words : List (List ℕ)) (keys : Keys) → keys_after (rs ++ words ∷ []) keys ≡ (does (keys_after rs keys) words).keys
 keys_after_push [] words keys = refl

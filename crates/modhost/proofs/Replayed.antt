@@ -6,7 +6,7 @@ use Rattle.std.specs.Option.{option_to_list}
 use Rattle.core_types.specs.Keys.{Keys, no_keys}
 use Rattle.core_types.specs.declared.effect.Effect.{Effect}
 use Rattle.resp_codec.specs.Spelling.{IsRequest}
-use Rattle.resp_codec.specs.Requests.{Piece, IsPiece, requests_of}
+use Rattle.resp_codec.specs.Requests.{Span, IsSpan, requests_of}
 use Rattle.disk_model.specs.declared.file_name.FileName.TheVariants.{Log}
 use Rattle.disk_model.specs.Files.{Files, with_file, Become}
 use Rattle.effect_log.specs.Unit.{unit}
@@ -43,11 +43,11 @@ events_replayed (words ∷ rs) keys each =
     replayed-on replay keys (does keys words).keys (does keys words).effects (effects_in (events rs (does keys words).keys)) (replays keys words) ∙ events_replayed rs (does keys words).keys each.1
 
 -- each piece that is no skip spells a request
-of_piece : (words : Option (List (List ℕ))) (more : List (List (List ℕ))) (bytes : List ℕ) → IsPiece (record { bytes = bytes; words = words }) → AllByRecursion IsRequest more → AllByRecursion IsRequest (option_to_list words ++ more)
+of_piece : (words : Option (List (List ℕ))) (more : List (List (List ℕ))) (bytes : List ℕ) → IsSpan (record { bytes = bytes; words = words }) → AllByRecursion IsRequest more → AllByRecursion IsRequest (option_to_list words ++ more)
 of_piece None more bytes is all = all
 of_piece (Some words) more bytes is all = (is.0, all)
 
-requests_are : (pieces : List Piece) → AllByRecursion IsPiece pieces → AllByRecursion IsRequest (requests_of pieces)
+requests_are : (pieces : List Span) → AllByRecursion IsSpan pieces → AllByRecursion IsRequest (requests_of pieces)
 requests_are [] each = tt
 requests_are (piece ∷ pieces) each = of_piece piece.words (requests_of pieces) piece.bytes each.0 (requests_are pieces each.1)
 
@@ -78,27 +78,27 @@ restarts files bytes keys holds = record {
 }
 
 -- the directory stands for the keys that the requests left
-pub stands : (old now : Option Files) (o : Opening) (pieces : List Piece) → IfSome old (λ known. Opens replay known o) → AllByRecursion IsPiece pieces → Become (with_file Log (o.log ++ units (requests_of pieces) o.keys)) old now
+pub stands : (old now : Option Files) (o : Opening) (pieces : List Span) → IfSome old (λ known. Opens replay known o) → AllByRecursion IsSpan pieces → Become (with_file Log (o.log ++ units (requests_of pieces) o.keys)) old now
     → IfSome now (λ known. Restarts replay known (keys_after (requests_of pieces) o.keys))
 stands None now o pieces opens each become = rw become tt
 stands (Some files) now o pieces opens each become =
     rw become (restarts files (o.log ++ units (requests_of pieces) o.keys) (keys_after (requests_of pieces) o.keys) (goes_on o (requests_of pieces) (opened_holds files.log files.dump o opens) (requests_are pieces each)))
 
 -- a request more
-asked_more : (pieces : List Piece) (last : Piece) (words : List (List ℕ)) → last.words ≡ Some words → requests_of (pieces ++ last ∷ []) ≡ requests_of pieces ++ words ∷ []
+asked_more : (pieces : List Span) (last : Span) (words : List (List ℕ)) → last.words ≡ Some words → requests_of (pieces ++ last ∷ []) ≡ requests_of pieces ++ words ∷ []
 asked_more pieces last words is = requests_of-append pieces (last ∷ []) ∙ ap (λ (w : Option (List (List ℕ))). requests_of pieces ++ (option_to_list w ++ [])) is
 
 -- the same with one request more
-pub stands_more : (old now : Option Files) (o : Opening) (pieces : List Piece) (last : Piece) (words : List (List ℕ)) → IfSome old (λ known. Opens replay known o) → AllByRecursion IsPiece (pieces ++ last ∷ []) → last.words ≡ Some words
+pub stands_more : (old now : Option Files) (o : Opening) (pieces : List Span) (last : Span) (words : List (List ℕ)) → IfSome old (λ known. Opens replay known o) → AllByRecursion IsSpan (pieces ++ last ∷ []) → last.words ≡ Some words
     → Become (with_file Log (o.log ++ units (requests_of pieces ++ words ∷ []) o.keys)) old now → IfSome now (λ known. Restarts replay known (keys_after (requests_of (pieces ++ last ∷ [])) o.keys))
 stands_more old now o pieces last words opens each is become =
     stands old now o (pieces ++ last ∷ []) opens each (subst (λ (rs : List (List (List ℕ))). Become (with_file Log (o.log ++ units rs o.keys)) old now) (sym (asked_more pieces last words is)) become)
 
-each_before : (pieces : List Piece) (last : Piece) → AllByRecursion IsPiece (pieces ++ last ∷ []) → AllByRecursion IsPiece pieces
+each_before : (pieces : List Span) (last : Span) → AllByRecursion IsSpan (pieces ++ last ∷ []) → AllByRecursion IsSpan pieces
 each_before [] last each = tt
 each_before (piece ∷ pieces) last each = (each.0, each_before pieces last each.1)
 
-words_of_last : (pieces : List Piece) (last : Piece) (words : List (List ℕ)) → AllByRecursion IsPiece (pieces ++ last ∷ []) → last.words ≡ Some words → IsRequest words
+words_of_last : (pieces : List Span) (last : Span) (words : List (List ℕ)) → AllByRecursion IsSpan (pieces ++ last ∷ []) → last.words ≡ Some words → IsRequest words
 words_of_last [] last words each is = (rw is at each.0).0
 words_of_last (piece ∷ pieces) last words each is = words_of_last pieces last words each.1 is
 
@@ -131,7 +131,7 @@ parts_of (suc count) size = elim (below_or_not (suc count) size) [
 ]
 
 -- With a front of the next one's unit behind them, the directory stands for what the requests left, or the next one too.
-pub stands_torn : (old now : Option Files) (o : Opening) (pieces : List Piece) (next : Piece) (words : List (List ℕ)) (count : ℕ) → IfSome old (λ known. Opens replay known o) → AllByRecursion IsPiece (pieces ++ next ∷ []) → next.words ≡ Some words
+pub stands_torn : (old now : Option Files) (o : Opening) (pieces : List Span) (next : Span) (words : List (List ℕ)) (count : ℕ) → IfSome old (λ known. Opens replay known o) → AllByRecursion IsSpan (pieces ++ next ∷ []) → next.words ≡ Some words
     → Become (with_file Log (o.log ++ units (requests_of pieces) o.keys ++ take count (unit (does (keys_after (requests_of pieces) o.keys) words).effects))) old now
     → IfSome now (λ known. Restarts replay known (keys_after (requests_of pieces) o.keys)) ⊎ IfSome now (λ known. Restarts replay known (keys_after (requests_of (pieces ++ next ∷ [])) o.keys))
 stands_torn None now o pieces next words count opens each is become = inl (rw become tt)

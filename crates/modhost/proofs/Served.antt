@@ -8,13 +8,13 @@ use Rattle.core_types.specs.Keys.{Keys}
 use Rattle.restart.specs.Restart.{Opening}
 use Rattle.resp_codec.specs.Spelling.{Spells, SkipsAll}
 use Rattle.resp_codec.specs.Stream.{Stream, Passes}
-use Rattle.resp_codec.specs.Requests.{Piece, IsPiece, bytes_of, requests_of}
+use Rattle.resp_codec.specs.Requests.{Span, IsSpan, bytes_of, requests_of, quits}
 use Rattle.resp_codec.specs.ReplyText.{text}
 use Rattle.effect_log.specs.Unit.{unit}
 use Rattle.disk_model.specs.declared.file_name.FileName.TheVariants.{Log}
 use Rattle.disk_model.specs.Files.{Files, with_file, with_appended, Become}
 use Rattle.modhost.specs.Does.{does}
-use Rattle.modhost.specs.Run.{keys_after, replies, units, quits}
+use Rattle.modhost.specs.Run.{keys_after, replies, units}
 use Rattle.modhost.specs.Pipe.{HasTaken, BeginsWith, Serves, ServesAll}
 use Rattle.modhost.specs.Serving.{Progress}
 use Rattle.modhost.specs.Ending.{outside}
@@ -70,7 +70,7 @@ pub record Serving (store store' : Keys) (words : List (List ℕ)) (sent sent' :
 
 module _ {opening : Opening} (store store' : Keys) (stream stream' : Stream) (bytes : ℕ) (spelling : List ℕ) (words : List (List ℕ)) (input left sent0 sent sent' : Option (List ℕ)) (files0 files files' : Option Files)
     (p : Progress store stream bytes (outside input left sent0 sent files0 files) opening) (spells : Spells spelling words) (passes : Passes stream stream' spelling) where
-  abbrev pub one_more : List Piece
+  abbrev pub one_more : List Span
   one_more = p.pieces ++ asks spelling words ∷ []
 
   stay : bytes_of one_more ++ stream'.rest ≡ bytes_of p.pieces ++ stream.rest
@@ -79,7 +79,7 @@ module _ {opening : Opening} (store store' : Keys) (stream stream' : Stream) (by
   asked : requests_of one_more ≡ requests_of p.pieces ++ words ∷ []
   asked = requests_asked p.pieces spelling words
 
-  each : AllByRecursion IsPiece one_more
+  each : AllByRecursion IsSpan one_more
   each = all-append p.pieces (asks spelling words ∷ []) p.takes.each (spells, tt)
 
   consumed : Consumes input left (bytes_of one_more ++ stream'.rest)

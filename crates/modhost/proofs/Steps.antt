@@ -1,6 +1,7 @@
 -- What a command comes to, of the words of its request: the first is the name, and the rest are the arguments.
 use Rattle.std.proofs.Common.{add-one, true, false, Some, None, ◌≡◌, refl, sym, ap, ◌∙◌, ℕ, ◌==◌, ◌-◌, ◌<◌, List, [], ◌∷◌, length, get_or, drop, codes, pos, arith}
 use Rattle.std.proofs.lemmas.Bool.{cond-true, cond-false, ne_eqb}
+use Rattle.core_types.specs.declared.value.Value.TheVariants.{Str}
 use Rattle.core_types.specs.Keys.{Keys, value_at, with_value, key_count}
 use Rattle.core_types.specs.declared.reply.Reply.TheVariants.{Simple, Int, Bulk}
 use Rattle.modhost.specs.declared.command.Command.{Command}
@@ -29,12 +30,12 @@ module _ (keys : Keys) where
   run-Get (name ∷ word ∷ words) key h is = ap (λ w. says keys (bulk_or_null (value_at keys w))) (sym is)
 
   pub run-Set : (words : List (List ℕ)) (key value : List ℕ) → length words ≡ 3 → key ≡ get_or words 1 key → value ≡ get_or words 2 value
-      → run Set keys (drop 1 words) ≡ changes (with_value keys key value) (Simple (codes "OK")) Set (drop 1 words)
+      → run Set keys (drop 1 words) ≡ changes (with_value keys key (Str value)) (Simple (codes "OK")) Set (drop 1 words)
   unfolding run
   run-Set [] key value h k v = absurd (omega arith)
   run-Set (name ∷ []) key value h k v = absurd (omega arith)
   run-Set (name ∷ a ∷ []) key value h k v = absurd (omega arith)
-  run-Set (name ∷ a ∷ b ∷ []) key value h k v = ap (λ w. changes (with_value keys w b) (Simple (codes "OK")) Set (a ∷ b ∷ [])) (sym k) ∙ ap (λ w. changes (with_value keys key w) (Simple (codes "OK")) Set (a ∷ b ∷ [])) (sym v)
+  run-Set (name ∷ a ∷ b ∷ []) key value h k v = ap (λ w. changes (with_value keys w (Str b)) (Simple (codes "OK")) Set (a ∷ b ∷ [])) (sym k) ∙ ap (λ w. changes (with_value keys key (Str w)) (Simple (codes "OK")) Set (a ∷ b ∷ [])) (sym v)
   run-Set (name ∷ a ∷ b ∷ word ∷ words) key value h k v = absurd (omega arith)
 
   pub run-Del-none : (names : List (List ℕ)) → key_count keys - key_count (without_all names keys) ≡ 0 → run Del keys names ≡ says keys (Int (pos 0))

@@ -4,7 +4,7 @@ use Rattle.std.specs.Io.KnownBytes.{Appends, Keeps}
 use Rattle.std.proofs.KnownBytes.{Appends-trans, Appends-kept, Keeps-refl, Consumes-kept, Consumes-trans}
 use Rattle.core_types.specs.Keys.{Keys}
 use Rattle.restart.specs.Restart.{Opening}
-use Rattle.core_types.specs.Causes.{Rose}
+use Rattle.modhost.specs.Counted.{Counted}
 use Rattle.core_types.specs.declared.bad_request.BadRequest.{BadRequest}
 use Rattle.resp_codec.specs.Spelling.{Spells}
 use Rattle.resp_codec.specs.Faults.{BadAt}
@@ -25,9 +25,9 @@ use Rattle.modhost.specs.Ending.{outside}
 use Rattle.modhost.proofs.StreamPieces.{asks}
 use Rattle.modhost.proofs.Served.{begins, begins_one, logged_asked, logged_more}
 
--- the count rose between two later moments
-pub rose_within : (first before now : ℕ) → first ≤ before → Rose before now → Rose first now
-rose_within first before now later rose = omega arith
+-- one fault was counted, and none before
+pub counted_within : (first before now : ℕ) → before ≡ first → Counted before now → Counted first now
+counted_within first before now same counted = rw (sym same) counted
 
 -- the requests so far were served
 pub serves_some : {opening : Opening} (store : Keys) (stream : Stream) (bytes : ℕ) (input left left' sent0 sent sent' : Option (List ℕ)) (files0 files files' : Option Files)
@@ -42,7 +42,7 @@ serves_some store stream bytes input left left' sent0 sent sent' files0 files fi
 -- a request was not served to its end
 pub stops_serving : {opening : Opening} (end : Status) (store : Keys) (stream stream' : Stream) (bytes : ℕ) (spelling : List ℕ) (words : List (List ℕ)) (input left sent0 sent sent' : Option (List ℕ)) (files0 files files' : Option Files)
     (dir0 dir dir' source source' sink0 sink sink' : ℕ) (p : Progress store stream bytes (outside input left sent0 sent files0 files) opening)
-    → Spells spelling words → Passes stream stream' spelling → dir0 ≤ dir → sink0 ≤ sink
+    → Spells spelling words → Passes stream stream' spelling → dir ≡ dir0 → sink ≡ sink0
     → ServeStops end (does store words) (record { old = files; new = files'; faults_old = dir; faults_new = dir' }) (record { old = sent; new = sent'; faults_old = sink; faults_new = sink' })
     → SourceStops end (outside input left sent0 sent' files0 files') opening dir0 dir' source source' sink0 sink'
 stops_serving {opening = opening} status.Memory store stream stream' bytes spelling words input left sent0 sent sent' files0 files files' dir0 dir dir' source source' sink0 sink sink' p spells passes dir_later sink_later stop =
@@ -51,7 +51,7 @@ stops_serving {opening = opening} status.DirFault store stream stream' bytes spe
     let log = stop.0.1 in
     let same : (count : ℕ) → opening.log ++ units (requests_of p.pieces) opening.keys ++ take count (unit (does store words).effects) ≡ opening.log ++ units (requests_of p.pieces) opening.keys ++ take count (unit (does (keys_after (requests_of p.pieces) opening.keys) words).effects)
     = λ count. ap (λ (k : Keys). opening.log ++ units (requests_of p.pieces) opening.keys ++ take count (unit (does k words).effects)) p.keys in (
-      rose_within dir0 dir dir' dir_later stop.0.0,
+      counted_within dir0 dir dir' dir_later stop.0.0,
       record {
         pieces = p.pieces;
         next = asks spelling words;
@@ -68,7 +68,7 @@ stops_serving {opening = opening} status.WriteFault store stream stream' bytes s
     let part = stop.2 in
     let same : (count : ℕ) → replies (requests_of p.pieces) opening.keys ++ take count (text (does store words).reply) ≡ replies (requests_of p.pieces) opening.keys ++ take count (text (does (keys_after (requests_of p.pieces) opening.keys) words).reply)
     = λ count. ap (λ (k : Keys). replies (requests_of p.pieces) opening.keys ++ take count (text (does k words).reply)) p.keys in (
-      rose_within sink0 sink sink' sink_later stop.0,
+      counted_within sink0 sink sink' sink_later stop.0,
       inl (record {
         pieces = p.pieces;
         last = asks spelling words;
@@ -84,7 +84,7 @@ stops_serving {opening = opening} end store stream stream' bytes spelling words 
 
 -- a bad place came, and its error was sent, or not
 pub stops_refusing : {opening : Opening} (end : Status) (store : Keys) (stream : Stream) (bytes : ℕ) (kind : BadRequest) (offset at : ℕ) (input left sent0 sent sent' : Option (List ℕ)) (files0 files : Option Files) (dir dir' source source' sink0 sink sink' : ℕ)
-    (p : Progress store stream bytes (outside input left sent0 sent files0 files) opening) → BadAt stream.rest kind at → offset ≡ stream.passed + at → sink0 ≤ sink
+    (p : Progress store stream bytes (outside input left sent0 sent files0 files) opening) → BadAt stream.rest kind at → offset ≡ stream.passed + at → sink ≡ sink0
     → RefuseEnds end kind offset (record { old = sent; new = sent'; faults_old = sink; faults_new = sink' })
     → SourceStops end (outside input left sent0 sent' files0 files) opening dir dir' source source' sink0 sink'
 stops_refusing {opening = opening} (status.Protocol kind' offset') store stream bytes kind offset at input left sent0 sent sent' files0 files dir dir' source source' sink0 sink sink' p bad place later end =
@@ -100,7 +100,7 @@ stops_refusing {opening = opening} (status.Protocol kind' offset') store stream 
       logged = p.serves.logged;
     }
 stops_refusing {opening = opening} status.WriteFault store stream bytes kind offset at input left sent0 sent sent' files0 files dir dir' source source' sink0 sink sink' p bad place later end = (
-  rose_within sink0 sink sink' later end.0,
+  counted_within sink0 sink sink' later end.0,
   inr (record {
     pieces = p.pieces;
     beyond = stream.rest;
@@ -119,13 +119,13 @@ stops_refusing {opening = opening} end store stream bytes kind offset at input l
 
 -- the next piece was not taken
 pub stops_taking : {opening : Opening} (end : Status) (store : Keys) (stream : Stream) (bytes : ℕ) (input left left' sent0 sent : Option (List ℕ)) (files0 files : Option Files) (dir dir' source0 source source' sink sink' : ℕ)
-    (p : Progress store stream bytes (outside input left sent0 sent files0 files) opening) → IsUnfinished stream.rest → source0 ≤ source → (end ≡ status.TooLong → bytes ≡ 2 ^ 40)
+    (p : Progress store stream bytes (outside input left sent0 sent files0 files) opening) → IsUnfinished stream.rest → source ≡ source0 → (end ≡ status.TooLong → bytes ≡ 2 ^ 40)
     → TakeStops end (record { old = left; new = left'; faults_old = source; faults_new = source' })
     → SourceStops end (outside input left' sent0 sent files0 files) opening dir dir' source0 source' sink sink'
 stops_taking status.Memory store stream bytes input left left' sent0 sent files0 files dir dir' source0 source source' sink sink' p begun later full stop =
     serves_some store stream bytes input left left' sent0 sent sent files0 files files p (Keeps-refl sent) refl
 stops_taking status.ReadFault store stream bytes input left left' sent0 sent files0 files dir dir' source0 source source' sink sink' p begun later full stop = (
-  rose_within source0 source source' later stop.0,
+  counted_within source0 source source' later stop.0,
   record {
     pieces = p.pieces;
     beyond = stream.rest;

@@ -1,6 +1,8 @@
 -- What each command does to the keys, what it replies, and the effects that do the same again.
 use Rattle.std.specs.Prelude.{ℕ, ◌+◌, ◌-◌, pos, List, [], ◌∷◌, ◌++◌, length, map, take, ◌==◌, Option, Some, None, codes, if◌then◌else◌}
-use Rattle.core_types.specs.Keys.{Keys, value_at, with_value, without, key_count}
+use Rattle.core_types.specs.declared.value.Value.{Value}
+use Rattle.core_types.specs.declared.value.Value.TheVariants.{Str}
+use Rattle.core_types.specs.Keys.{Keys, Native, value_at, with_value, without, key_count}
 use Rattle.core_types.specs.Printable.{printable}
 use Rattle.core_types.specs.declared.effect.Effect.{Effect}
 use Rattle.core_types.specs.declared.reply.Reply.{Reply}
@@ -35,10 +37,11 @@ unknown_command name = error (codes "ERR unknown command '" ++ take 128 name ++ 
 abbrev pub wrong_number : Command → Reply
 wrong_number command = error (codes "ERR wrong number of arguments for '" ++ lower_name command ++ codes "' command")
 
--- the bytes, or no value
-abbrev pub bulk_or_null : Option (List ℕ) → Reply
+-- the bytes of a string, or no value; no other value is served yet
+abbrev pub bulk_or_null : Option (Value Native) → Reply
 bulk_or_null None = Null
-bulk_or_null (Some bytes) = Bulk bytes
+bulk_or_null (Some (Str bytes)) = Bulk bytes
+bulk_or_null (Some other) = Null
 
 -- the keys without any of these
 abbrev pub without_all : List (List ℕ) → Keys → Keys
@@ -56,7 +59,7 @@ removes keys names =
 unfoldable pub run : Command → Keys → List (List ℕ) → Step
 run Ping keys [] = says keys (Simple (codes "PONG"))
 run Ping keys (message ∷ _) = says keys (Bulk message)
-run Set keys (key ∷ value ∷ _) = changes (with_value keys key value) (Simple (codes "OK")) Set (key ∷ value ∷ [])
+run Set keys (key ∷ value ∷ _) = changes (with_value keys key (Str value)) (Simple (codes "OK")) Set (key ∷ value ∷ [])
 run Set keys _ = says keys (wrong_number Set)
 run Get keys (key ∷ _) = says keys (bulk_or_null (value_at keys key))
 run Get keys [] = says keys (wrong_number Get)

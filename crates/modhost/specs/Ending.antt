@@ -1,6 +1,6 @@
 -- What each end of `pipe` says of its source, sink and directory.
 use Rattle.std.specs.Prelude.{◌≡◌, ◌⊎◌, ℕ, List, [], ◌∷◌, ◌++◌, Option, Some, None, IfSome, unwrap_or}
-use Rattle.core_types.specs.Causes.{Rose}
+use Rattle.modhost.specs.Counted.{Counted}
 use Rattle.core_types.specs.Keys.{Keys}
 use Rattle.core_types.specs.declared.bad_request.BadRequest.{BadRequest}
 use Rattle.disk_model.specs.Files.{Files}
@@ -63,9 +63,9 @@ PipeSendsPart o = FromOpening o (λ opening. ((part : SendsPart o opening) × St
 abbrev pub PipeEnds : Status → Outside → (dir dir' source source' sink sink' : ℕ) → Type 0
 PipeEnds Done o dir dir' source source' sink sink' = PipeServesAll o
 PipeEnds (LogRefused file offset why) o dir dir' source source' sink sink' = IsRefused o file offset why
-PipeEnds DirFault o dir dir' source source' sink sink' = Rose dir dir' × (OpensNot o ⊎ PipeLogsPart o)
-PipeEnds ReadFault o dir dir' source source' sink sink' = Rose source source' × PipeStopsReading o
-PipeEnds WriteFault o dir dir' source source' sink sink' = Rose sink sink' × PipeSendsPart o
+PipeEnds DirFault o dir dir' source source' sink sink' = Counted dir dir' × (OpensNot o ⊎ PipeLogsPart o)
+PipeEnds ReadFault o dir dir' source source' sink sink' = Counted source source' × PipeStopsReading o
+PipeEnds WriteFault o dir dir' source source' sink sink' = Counted sink sink' × PipeSendsPart o
 PipeEnds Memory o dir dir' source source' sink sink' = IsUntouched o ⊎ PipeServesSome o
 PipeEnds (Protocol kind offset) o dir dir' source source' sink sink' = PipeRefuses o kind offset
 PipeEnds (CutOff count) o dir dir' source source' sink sink' = PipeCutsOff o count

@@ -1,12 +1,13 @@
+pub mod Stored
 pub mod Command
 pub mod Does
 pub mod Replay
 pub mod Run
 pub mod Words
+pub mod Counted
 pub mod Status
 pub mod Stops
 pub mod Pipe
 pub mod Serving
 pub mod Ending
-pub mod Again
 pub mod Outcome

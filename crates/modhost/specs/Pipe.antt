@@ -5,7 +5,7 @@ use Rattle.std.specs.Io.KnownBytes.{Appends, Keeps, Consumes, IsAtEnd}
 use Rattle.core_types.specs.declared.bad_request.BadRequest.{BadRequest}
 use Rattle.resp_codec.specs.Faults.{BadAt}
 use Rattle.resp_codec.specs.Stream.{IsUnfinished}
-use Rattle.resp_codec.specs.Requests.{Piece, IsPiece, bytes_of, requests_of}
+use Rattle.resp_codec.specs.Requests.{Span, IsSpan, bytes_of, requests_of, quits}
 use Rattle.resp_codec.specs.ReplyText.{text}
 use Rattle.resp_codec.specs.BadReply.{bad_reply}
 use Rattle.effect_log.specs.Unit.{unit}
@@ -13,10 +13,11 @@ use Rattle.disk_model.specs.declared.file_name.FileName.{FileName}
 use Rattle.disk_model.specs.declared.file_name.FileName.TheVariants.{Log}
 use Rattle.disk_model.specs.Files.{Files, with_file, Become, Stay}
 use Rattle.effect_log.specs.declared.reason.Reason.{Reason}
-use Rattle.restart.specs.Restart.{Opening, Opens, Restarts, IsPartlyOpen, IsRefusedLog}
+use Rattle.restart.specs.OpenLog.{IsPartlyOpen}
+use Rattle.restart.specs.Restart.{Opening, Opens, Restarts, IsRefusedLog}
 use Rattle.modhost.specs.Does.{does}
 use Rattle.modhost.specs.Replay.{replay}
-use Rattle.modhost.specs.Run.{keys_after, replies, units, quits}
+use Rattle.modhost.specs.Run.{keys_after, replies, units}
 
 -- what a source has, and what a sink and a directory held before a run and hold after it, where they tell
 pub record Outside : Type 0 where
@@ -34,27 +35,27 @@ pub record IsUntouched (o : Outside) : Type 0 where
   pub files : Stay o.files_before o.files
 
 -- none of the requests is QUIT
-abbrev pub NoneQuits : List Piece → Type 0
+abbrev pub NoneQuits : List Span → Type 0
 NoneQuits pieces = list_any quits (requests_of pieces) ≡ false
 
 -- the bytes of the pieces were taken of the source, and these beyond them, 2^40 bytes at the most
-pub record HasTaken (o : Outside) (pieces : List Piece) (beyond : List ℕ) : Type 0 where
-  pub each : AllByRecursion IsPiece pieces
+pub record HasTaken (o : Outside) (pieces : List Span) (beyond : List ℕ) : Type 0 where
+  pub each : AllByRecursion IsSpan pieces
   pub bytes : Consumes o.input o.left (bytes_of pieces ++ beyond)
   pub within : length (bytes_of pieces ++ beyond) ≤ 2 ^ 40
 
 -- The input begins with these pieces.
-pub record BeginsWith (o : Outside) (pieces : List Piece) : Type 0 where
-  pub each : AllByRecursion IsPiece pieces
+pub record BeginsWith (o : Outside) (pieces : List Span) : Type 0 where
+  pub each : AllByRecursion IsSpan pieces
   pub bytes : IfSome o.input (λ input. (rest : List ℕ) × (input ≡ bytes_of pieces ++ rest))
 
 -- Their requests were served: their replies were sent, and the log holds their units and nothing else.
-pub record Serves (o : Outside) (opening : Opening) (pieces : List Piece) : Type 0 where
+pub record Serves (o : Outside) (opening : Opening) (pieces : List Span) : Type 0 where
   pub sent : Appends o.sent_before o.sent (replies (requests_of pieces) opening.keys)
   pub logged : Become (with_file Log (opening.log ++ units (requests_of pieces) opening.keys)) o.files_before o.files
 
 -- the last request is QUIT, and no other
-pub record LastQuits (pieces : List Piece) : Type 0 where
+pub record LastQuits (pieces : List Span) : Type 0 where
   pub front : List (List (List ℕ))
   pub last : List (List ℕ)
   pub requests : requests_of pieces ≡ front ++ last ∷ []
@@ -63,7 +64,7 @@ pub record LastQuits (pieces : List Piece) : Type 0 where
 
 -- All requests were served, to the end of the input or to QUIT.
 pub record ServesAll (o : Outside) (opening : Opening) : Type 0 where
-  pub pieces : List Piece
+  pub pieces : List Span
   pub beyond : List ℕ
   pub takes : HasTaken o pieces beyond
   pub serves : Serves o opening pieces
@@ -71,7 +72,7 @@ pub record ServesAll (o : Outside) (opening : Opening) : Type 0 where
 
 -- All were, to the end of the input, which stands so many bytes into a request.
 pub record CutsOff (o : Outside) (opening : Opening) (count : ℕ) : Type 0 where
-  pub pieces : List Piece
+  pub pieces : List Span
   pub beyond : List ℕ
   pub takes : HasTaken o pieces beyond
   pub serves : Serves o opening pieces
@@ -83,7 +84,7 @@ pub record CutsOff (o : Outside) (opening : Opening) (count : ℕ) : Type 0 wher
 
 -- All were, up to the first bad place, whose error was sent.
 pub record Refuses (o : Outside) (opening : Opening) (kind : BadRequest) (offset : ℕ) : Type 0 where
-  pub pieces : List Piece
+  pub pieces : List Span
   pub beyond : List ℕ
   pub at : ℕ
   pub takes : HasTaken o pieces beyond
@@ -95,7 +96,7 @@ pub record Refuses (o : Outside) (opening : Opening) (kind : BadRequest) (offset
 
 -- All that was taken was served, but for what begins no request yet: more was wanted, and the source failed.
 pub record StopsReading (o : Outside) (opening : Opening) : Type 0 where
-  pub pieces : List Piece
+  pub pieces : List Span
   pub beyond : List ℕ
   pub takes : HasTaken o pieces beyond
   pub serves : Serves o opening pieces
@@ -104,10 +105,10 @@ pub record StopsReading (o : Outside) (opening : Opening) : Type 0 where
 
 -- The same, where 2^40 bytes were taken, and more came.
 pub record StopsAtLimit (o : Outside) (opening : Opening) : Type 0 where
-  pub pieces : List Piece
+  pub pieces : List Span
   pub beyond : List ℕ
   pub more : List ℕ
-  pub each : AllByRecursion IsPiece pieces
+  pub each : AllByRecursion IsSpan pieces
   pub bytes : Consumes o.input o.left ((bytes_of pieces ++ beyond) ++ more)
   pub full : length (bytes_of pieces ++ beyond) ≡ 2 ^ 40
   pub some : 0 < length more
@@ -117,15 +118,15 @@ pub record StopsAtLimit (o : Outside) (opening : Opening) : Type 0 where
 
 -- Some requests were served, none of them QUIT, and the run stopped before the next.
 pub record ServesSome (o : Outside) (opening : Opening) : Type 0 where
-  pub pieces : List Piece
+  pub pieces : List Span
   pub begins : BeginsWith o pieces
   pub serves : Serves o opening pieces
   pub going : NoneQuits pieces
 
 -- Some were, and of the unit of the next one, which changes something, a front is in the log.
 pub record LogsPart (o : Outside) (opening : Opening) : Type 0 where
-  pub pieces : List Piece
-  pub next : Piece
+  pub pieces : List Span
+  pub next : Span
   pub words : List (List ℕ)
   pub begins : BeginsWith o (pieces ++ next ∷ [])
   pub going : NoneQuits pieces
@@ -137,8 +138,8 @@ pub record LogsPart (o : Outside) (opening : Opening) : Type 0 where
 
 -- Some were, and the last was logged, but of its reply only a front was sent.
 pub record SendsPart (o : Outside) (opening : Opening) : Type 0 where
-  pub pieces : List Piece
-  pub last : Piece
+  pub pieces : List Span
+  pub last : Span
   pub words : List (List ℕ)
   pub begins : BeginsWith o (pieces ++ last ∷ [])
   pub going : NoneQuits pieces
@@ -149,7 +150,7 @@ pub record SendsPart (o : Outside) (opening : Opening) : Type 0 where
 
 -- All were, up to the first bad place, of whose error only a front was sent.
 pub record SendsPartOfError (o : Outside) (opening : Opening) : Type 0 where
-  pub pieces : List Piece
+  pub pieces : List Span
   pub beyond : List ℕ
   pub kind : BadRequest
   pub at : ℕ
@@ -164,7 +165,7 @@ abbrev pub FromOpening : Outside → (Opening → Type 0) → Type 0
 FromOpening o served = (opening : Opening) × IfSome o.files_before (λ known. Opens replay known opening) × served opening
 
 -- The directory stands for the keys that these requests leave of the opening's.
-abbrev pub StandsFor : Outside → Opening → List Piece → Type 0
+abbrev pub StandsFor : Outside → Opening → List Span → Type 0
 StandsFor o opening pieces = IfSome o.files (λ known. Restarts replay known (keys_after (requests_of pieces) opening.keys))
 
 -- Opening failed: nothing was read or sent, and the directory stands for what it stood for: it is as it was,

@@ -4,8 +4,7 @@ use Rattle.core_types.specs.Keys.{Keys}
 use Rattle.core_types.specs.declared.effect.Effect.{Effect}
 use Rattle.core_types.specs.declared.reply.Reply.{Reply}
 use Rattle.core_types.specs.declared.reply.Reply.TheVariants.{Error}
-use Rattle.effect_log.specs.declared.reason.Reason.{Reason}
-use Rattle.effect_log.specs.declared.reason.Reason.TheVariants.{NotAnEffect, EffectRefused}
+use Rattle.effect_log.specs.Refusal.{Refusal, NotAnEffect, EffectRefused}
 use Rattle.modhost.specs.declared.command.Command.{Command}
 use Rattle.modhost.specs.declared.command.Command.TheVariants.{Set, Del}
 use Rattle.modhost.specs.Command.{command_named}
@@ -27,9 +26,9 @@ is_error (Error text) = true
 is_error other = false
 
 -- the keys that a step leaves, unless its reply is an error
-abbrev pub left_by : Step → Result Keys Reason
+abbrev pub left_by : Step → Result Keys Refusal
 left_by step = if is_error step.reply then Err EffectRefused else Ok step.keys
 
 -- The keys that an effect makes of some keys, as its command does.
-abbrev pub replay : Keys → Effect → Result Keys Reason
+abbrev pub replay : Keys → Effect → Result Keys Refusal
 replay keys effect = if is_effect effect.words then left_by (does keys effect.words) else Err NotAnEffect

@@ -1,6 +1,5 @@
 -- Requests one after the other.
-use Rattle.std.specs.Prelude.{ℕ, List, [], ◌∷◌, ◌++◌, Bool, false, codes}
-use Rattle.std.specs.Str.{str_eq_ignore_ascii_case}
+use Rattle.std.specs.Prelude.{ℕ, List, [], ◌∷◌, ◌++◌}
 use Rattle.core_types.specs.Keys.{Keys}
 use Rattle.resp_codec.specs.ReplyText.{text}
 use Rattle.effect_log.specs.Unit.{unit}
@@ -20,9 +19,3 @@ replies (words ∷ more) keys = text (does keys words).reply ++ replies more (do
 abbrev pub units : List (List (List ℕ)) → Keys → List ℕ
 units [] keys = []
 units (words ∷ more) keys = unit (does keys words).effects ++ units more (does keys words).keys
-
--- the one word QUIT, in any case of letters
-abbrev pub quits : List (List ℕ) → Bool
-quits [] = false
-quits (word ∷ []) = str_eq_ignore_ascii_case word (codes "QUIT")
-quits (word ∷ next ∷ more) = false

@@ -2,12 +2,12 @@
 use Rattle.std.specs.Prelude.{◌≡◌, ◌⊎◌, ℕ, ◌<◌, List, ◌++◌, length, take, Option, Some, IfSome}
 use Rattle.std.specs.Io.KnownBytes.{Appends, Keeps, Consumes}
 use Rattle.core_types.specs.Keys.{Keys}
-use Rattle.core_types.specs.Causes.{Rose}
+use Rattle.modhost.specs.Counted.{Counted}
 use Rattle.core_types.specs.declared.bad_request.BadRequest.{BadRequest}
 use Rattle.resp_codec.specs.ReplyText.{text}
 use Rattle.resp_codec.specs.BadReply.{bad_reply}
 use Rattle.resp_codec.specs.Stream.{Stream}
-use Rattle.resp_codec.specs.Requests.{Piece, bytes_of, requests_of}
+use Rattle.resp_codec.specs.Requests.{Span, bytes_of, requests_of}
 use Rattle.effect_log.specs.Unit.{unit}
 use Rattle.disk_model.specs.declared.file_name.FileName.TheVariants.{Log}
 use Rattle.disk_model.specs.Files.{Files, with_appended, Become, Stay}
@@ -28,7 +28,7 @@ pub record Change (T : Type 0) : Type 0 where
 -- Why a request was not executed and logged, and how that left the directory.
 abbrev pub LogStops : Status → Step → Change Files → Type 0
 LogStops Memory step files = Stay files.old files.new
-LogStops DirFault step files = Rose files.faults_old files.faults_new
+LogStops DirFault step files = Counted files.faults_old files.faults_new
     × ((count : ℕ) × Become (with_appended Log (take count (unit step.effects))) files.old files.new)
     × (0 < length (unit step.effects))
 LogStops end step files = ⊥
@@ -37,7 +37,7 @@ LogStops end step files = ⊥
 abbrev pub ServeStops : Status → Step → Change Files → Change (List ℕ) → Type 0
 ServeStops Memory step files sent = Stay files.old files.new × Keeps sent.old sent.new
 ServeStops DirFault step files sent = LogStops DirFault step files × Keeps sent.old sent.new
-ServeStops WriteFault step files sent = Rose sent.faults_old sent.faults_new
+ServeStops WriteFault step files sent = Counted sent.faults_old sent.faults_new
     × Become (with_appended Log (unit step.effects)) files.old files.new
     × ((count : ℕ) × Appends sent.old sent.new (take count (text step.reply)))
 ServeStops end step files sent = ⊥
@@ -45,7 +45,7 @@ ServeStops end step files sent = ⊥
 -- What a bad request comes to, whatever else stops it: its error was sent, or a front of it, or nothing.
 abbrev pub RefuseEnds : Status → BadRequest → ℕ → Change (List ℕ) → Type 0
 RefuseEnds (Protocol kind' offset') kind offset sent = (kind' ≡ kind) × (offset' ≡ offset) × Appends sent.old sent.new (text (bad_reply kind))
-RefuseEnds WriteFault kind offset sent = Rose sent.faults_old sent.faults_new
+RefuseEnds WriteFault kind offset sent = Counted sent.faults_old sent.faults_new
     × ((count : ℕ) × Appends sent.old sent.new (take count (text (bad_reply kind))))
 RefuseEnds Memory kind offset sent = Keeps sent.old sent.new
 RefuseEnds end kind offset sent = ⊥
@@ -53,13 +53,13 @@ RefuseEnds end kind offset sent = ⊥
 -- Why a text was not sent to its end.
 abbrev pub SendStops : Status → List ℕ → Change (List ℕ) → Type 0
 SendStops Memory bytes sent = Keeps sent.old sent.new
-SendStops WriteFault bytes sent = Rose sent.faults_old sent.faults_new × ((count : ℕ) × Appends sent.old sent.new (take count bytes))
+SendStops WriteFault bytes sent = Counted sent.faults_old sent.faults_new × ((count : ℕ) × Appends sent.old sent.new (take count bytes))
 SendStops end bytes sent = ⊥
 
 -- Why the next piece of the input was not taken.
 abbrev pub TakeStops : Status → Change (List ℕ) → Type 0
 TakeStops Memory input = Unit {0}
-TakeStops ReadFault input = Rose input.faults_old input.faults_new × Keeps input.old input.new
+TakeStops ReadFault input = Counted input.faults_old input.faults_new × Keeps input.old input.new
 TakeStops TooLong input = (more : List ℕ) × Consumes input.old input.new more × (0 < length more)
 TakeStops end input = ⊥
 
@@ -70,9 +70,9 @@ IsLog bytes files = IfSome files (λ known. known.log ≡ Some bytes)
 -- Why a source was not served to its end, and what was. The numbers are the counts of faults before and after, of the directory, the source and the sink.
 abbrev pub SourceStops : Status → Outside → Opening → (dir dir' source source' sink sink' : ℕ) → Type 0
 SourceStops Memory o opening dir dir' source source' sink sink' = ServesSome o opening
-SourceStops DirFault o opening dir dir' source source' sink sink' = Rose dir dir' × LogsPart o opening
-SourceStops ReadFault o opening dir dir' source source' sink sink' = Rose source source' × StopsReading o opening
-SourceStops WriteFault o opening dir dir' source source' sink sink' = Rose sink sink' × (SendsPart o opening ⊎ SendsPartOfError o opening)
+SourceStops DirFault o opening dir dir' source source' sink sink' = Counted dir dir' × LogsPart o opening
+SourceStops ReadFault o opening dir dir' source source' sink sink' = Counted source source' × StopsReading o opening
+SourceStops WriteFault o opening dir dir' source source' sink sink' = Counted sink sink' × (SendsPart o opening ⊎ SendsPartOfError o opening)
 SourceStops TooLong o opening dir dir' source source' sink sink' = StopsAtLimit o opening
 SourceStops (Protocol kind offset) o opening dir dir' source source' sink sink' = Refuses o opening kind offset
 SourceStops (CutOff count) o opening dir dir' source source' sink sink' = CutsOff o opening count
@@ -80,7 +80,7 @@ SourceStops end o opening dir dir' source source' sink sink' = ⊥
 
 -- how far a run has come: what it has served of its input, and what it holds beyond that
 pub record Progress (store : Keys) (stream : Stream) (bytes : ℕ) (o : Outside) (opening : Opening) : Type 0 where
-  pub pieces : List Piece
+  pub pieces : List Span
   pub keys : store ≡ keys_after (requests_of pieces) opening.keys
   pub going : NoneQuits pieces
   pub takes : HasTaken o pieces stream.rest

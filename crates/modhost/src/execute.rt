@@ -167,6 +167,3 @@ fn effect(alloc: Global, command: Command, mut words: Vec<Blob>) -> Result<Effec
         words: Args::from_vec(words),
     })
 }
-
-#[cfg(test)]
-mod tests;

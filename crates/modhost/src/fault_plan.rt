@@ -3,7 +3,7 @@
 ghost use Rattle.std.specs.Prelude.{◌≡◌, ◌≤◌, ◌+◌, ◌-◌, ◌^◌, ◌==◌, min, IfOk};
 ghost use Rattle.std.specs.List.{list_any};
 ghost use Rattle.std.specs.Bool.{OnTrue, OnFalse};
-ghost use Rattle.core_types.specs.Causes.{Rose};
+ghost use Rattle.modhost.specs.Counted.{Counted};
 
 use core_types::NoMemory;
 use std::alloc::Global;
@@ -37,8 +37,7 @@ impl FaultPlan {
         ensures counted { self.new.calls ≡ min (self.old.calls + 1) (2 ^ 64 - 1) }
         ensures kept { self.new.fails.items ≡ self.old.fails.items }
         ensures later { self.old.faults ≤ self.new.faults }
-        ensures fails { OnTrue result (Rose self.old.faults self.new.faults) }
-        ensures one { OnTrue result (self.new.faults ≡ min (self.old.faults + 1) (2 ^ 64 - 1)) }
+        ensures fails { OnTrue result (Counted self.old.faults self.new.faults) }
         ensures goes_on { OnFalse result (self.new.faults ≡ self.old.faults) }
     {
         self.calls = self.calls.saturating_add(1);
@@ -52,8 +51,7 @@ impl FaultPlan {
     /// Counts a fault of a call that was not told to fail.
     pub fn count_fault(&mut self)
         ensures later { self.old.faults ≤ self.new.faults }
-        ensures counted { Rose self.old.faults self.new.faults }
-        ensures one { self.new.faults ≡ min (self.old.faults + 1) (2 ^ 64 - 1) }
+        ensures counted { Counted self.old.faults self.new.faults }
         ensures kept { self.new.fails.items ≡ self.old.fails.items }
         ensures calls { self.new.calls ≡ self.old.calls }
     {

@@ -1,11 +1,12 @@
 //! The keys of a directory, and the log that keeps them.
 
-ghost use Rattle.std.specs.Prelude.{ℕ, ◌≡◌, ◌≤◌, ◌<◌, ◌++◌, length, take, IfErr, OnOk, OnErr};
+ghost use Rattle.std.specs.Prelude.{ℕ, ◌≡◌, ◌<◌, ◌++◌, length, take, IfErr, OnOk, OnErr};
 ghost use Rattle.core_types.specs.Causes.{HasCause};
 ghost use Rattle.resp_codec.specs.Spelling.{IsRequest};
 ghost use Rattle.resp_codec.specs.ReplyText.{text};
 ghost use Rattle.effect_log.specs.Unit.{unit};
 ghost use Rattle.disk_model.specs.Files.{with_appended, Become, IsThere};
+ghost use Rattle.disk_model.specs.Told.{files_told};
 ghost use Rattle.modhost.specs.Does.{does};
 ghost use Rattle.modhost.specs.Serving.{LogStops};
 
@@ -28,12 +29,12 @@ pub struct Host<D: Dir> {
 
 // Adds bytes to the log and makes them safe from a crash. Asks nothing of the directory where there are none.
 fn append_synced<D: Dir>(dir: &mut D, bytes: &[u8]) -> Result<(), DirFault>
-    requires { IsThere FileName.Log (D.files dir.old) }
-    ensures ok { OnOk result (Become (with_appended FileName.Log bytes.now) (D.files dir.old) (D.files dir.new)) }
+    requires { IsThere FileName.Log (files_told (D.told dir.old)) }
+    ensures ok { OnOk result (Become (with_appended FileName.Log bytes.now) (files_told (D.told dir.old)) (files_told (D.told dir.new))) }
     ensures err { OnErr result ((count : ℕ) ×
-        Become (with_appended FileName.Log (take count bytes.now)) (D.files dir.old) (D.files dir.new)) }
+        Become (with_appended FileName.Log (take count bytes.now)) (files_told (D.told dir.old)) (files_told (D.told dir.new))) }
     ensures some { OnErr result (0 < length bytes.now) }
-    ensures cause { HasCause (D.faults dir.old) (D.faults dir.new) result }
+    ensures cause { HasCause (D.told dir.old).faults (D.told dir.new).faults result }
 {
     if bytes.is_empty() {
         return Ok(());
@@ -47,14 +48,14 @@ impl<D: Dir> Host<D> {
     /// given up, since its keys may be ahead of its log.
     pub fn serve(&mut self, alloc: Global, words: Args, out: &mut Blob) -> Result<(), Status>
         requires request { IsRequest words }
-        requires log { IsThere FileName.Log (D.files self.old.dir) }
+        requires log { IsThere FileName.Log (files_told (D.told self.old.dir)) }
         ensures keys { OnOk result (self.new.keys ≡ (does self.old.keys words).keys) }
         ensures reply { OnOk result (out.new ≡ out.old ++ text (does self.old.keys words).reply) }
         ensures logged { OnOk result (Become (with_appended FileName.Log (unit (does self.old.keys words).effects))
-            (D.files self.old.dir) (D.files self.new.dir)) }
+            (files_told (D.told self.old.dir)) (files_told (D.told self.new.dir))) }
         ensures stop { IfErr result (λ status. LogStops status (does self.old.keys words)
-            (record { old = D.files self.old.dir; new = D.files self.new.dir; faults_old = D.faults self.old.dir; faults_new = D.faults self.new.dir })) }
-        ensures later { D.faults self.old.dir ≤ D.faults self.new.dir }
+            (record { old = files_told (D.told self.old.dir); new = files_told (D.told self.new.dir); faults_old = (D.told self.old.dir).faults; faults_new = (D.told self.new.dir).faults })) }
+        ensures kept { OnOk result ((D.told self.new.dir).faults ≡ (D.told self.old.dir).faults) }
     {
         let outcome = execute(alloc, &mut self.keys, words)?;
         let unit = unit_text(alloc, &outcome.effects)?;

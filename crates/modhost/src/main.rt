@@ -10,7 +10,6 @@
 //! held beside the keys; after that memory grows with the keys alone.
 #![tactic(auto)]
 
-pub mod again;
 pub mod command;
 pub mod execute;
 mod fault_plan;

@@ -8,8 +8,9 @@ ghost use Rattle.resp_codec.specs.ReplyText.{text};
 ghost use Rattle.resp_codec.specs.BadReply.{bad_reply};
 ghost use Rattle.effect_log.specs.Unit.{unit};
 ghost use Rattle.disk_model.specs.Files.{file, with_appended, Become, IsThere};
+ghost use Rattle.disk_model.specs.Told.{files_told};
 ghost use Rattle.modhost.specs.Does.{does};
-ghost use Rattle.modhost.specs.Run.{quits};
+ghost use Rattle.resp_codec.specs.Requests.{quits};
 ghost use Rattle.modhost.specs.Pipe.{Outside, ServesAll};
 ghost use Rattle.modhost.specs.Serving.{ServeStops, SendStops, RefuseEnds, TakeStops, SourceStops};
 ghost use Rattle.modhost.specs.Ending.{opening_at};
@@ -26,6 +27,9 @@ use std::alloc::Global;
 /// How many bytes are read at a time, at the most.
 pub const PIECE: usize = 16_384;
 
+// The longest reply whose room is kept for the next one, in bytes.
+const MOST_KEPT: usize = 65_536;
+
 /// How many bytes are read in one run, at the most.
 pub const MAX_INPUT: u64 = 1 << 40;
 
@@ -40,24 +44,24 @@ pub fn serve_source<D: Dir, S: Source, K: Sink>(
     source: &mut S,
     sink: &mut K,
 ) -> Result<(), Status>
-    requires log { IsThere FileName.Log (D.files host.old.dir) }
+    requires log { IsThere FileName.Log (files_told (D.told host.old.dir)) }
     ensures all { OnOk result (ServesAll (record {
       input = S.left source.old;
       left = S.left source.new;
       sent_before = K.got sink.old;
       sent = K.got sink.new;
-      files_before = D.files host.old.dir;
-      files = D.files host.new.dir;
-    }) (opening_at (D.files host.old.dir) host.old.keys)) }
+      files_before = files_told (D.told host.old.dir);
+      files = files_told (D.told host.new.dir);
+    }) (opening_at (files_told (D.told host.old.dir)) host.old.keys)) }
     ensures stop { IfErr result (λ status. SourceStops status (record {
       input = S.left source.old;
       left = S.left source.new;
       sent_before = K.got sink.old;
       sent = K.got sink.new;
-      files_before = D.files host.old.dir;
-      files = D.files host.new.dir;
-    }) (opening_at (D.files host.old.dir) host.old.keys)
-        (D.faults host.old.dir) (D.faults host.new.dir) (S.faults source.old) (S.faults source.new) (K.faults sink.old) (K.faults sink.new)) }
+      files_before = files_told (D.told host.old.dir);
+      files = files_told (D.told host.new.dir);
+    }) (opening_at (files_told (D.told host.old.dir)) host.old.keys)
+        (D.told host.old.dir).faults (D.told host.new.dir).faults (S.faults source.old) (S.faults source.new) (K.faults sink.old) (K.faults sink.new)) }
 {
     let mut reader = Reader::new(alloc);
     let mut out = Blob::new(alloc);
@@ -106,7 +110,6 @@ fn refuse<K: Sink>(
 ) -> Status
     ensures end { RefuseEnds result kind offset
         (record { old = K.got sink.old; new = K.got sink.new; faults_old = K.faults sink.old; faults_new = K.faults sink.new }) }
-    ensures later { K.faults sink.old ≤ K.faults sink.new }
 {
     match send_error(alloc, kind, out, sink) {
         Ok(()) => Status::Protocol(kind, offset),
@@ -124,7 +127,6 @@ fn send_error<K: Sink>(
     ensures sent { OnOk result (Appends (K.got sink.old) (K.got sink.new) (text (bad_reply kind))) }
     ensures stop { IfErr result (λ status. SendStops status (text (bad_reply kind))
         (record { old = K.got sink.old; new = K.got sink.new; faults_old = K.faults sink.old; faults_new = K.faults sink.new })) }
-    ensures later { K.faults sink.old ≤ K.faults sink.new }
 {
     out.truncate(0);
     write_reply(out, &bad_reply(alloc, &kind)?)?;
@@ -155,21 +157,33 @@ fn answer<D: Dir, K: Sink>(
     sink: &mut K,
 ) -> Result<(), Status>
     requires request { IsRequest words }
-    requires log { IsThere FileName.Log (D.files host.old.dir) }
+    requires log { IsThere FileName.Log (files_told (D.told host.old.dir)) }
     ensures keys { OnOk result (host.new.keys ≡ (does host.old.keys words).keys) }
     ensures logged { OnOk result (Become (with_appended FileName.Log (unit (does host.old.keys words).effects))
-        (D.files host.old.dir) (D.files host.new.dir)) }
+        (files_told (D.told host.old.dir)) (files_told (D.told host.new.dir))) }
     ensures sent { OnOk result (Appends (K.got sink.old) (K.got sink.new) (text (does host.old.keys words).reply)) }
     ensures stop { IfErr result (λ status. ServeStops status (does host.old.keys words)
-        (record { old = D.files host.old.dir; new = D.files host.new.dir; faults_old = D.faults host.old.dir; faults_new = D.faults host.new.dir })
+        (record { old = files_told (D.told host.old.dir); new = files_told (D.told host.new.dir); faults_old = (D.told host.old.dir).faults; faults_new = (D.told host.new.dir).faults })
         (record { old = K.got sink.old; new = K.got sink.new; faults_old = K.faults sink.old; faults_new = K.faults sink.new })) }
-    ensures dir_later { D.faults host.old.dir ≤ D.faults host.new.dir }
-    ensures sink_later { K.faults sink.old ≤ K.faults sink.new }
+    ensures dir_kept { OnOk result ((D.told host.new.dir).faults ≡ (D.told host.old.dir).faults) }
+    ensures sink_kept { OnOk result (K.faults sink.new ≡ K.faults sink.old) }
 {
     out.truncate(0);
     host.serve(alloc, words, out)?;
     put_all(sink, out.as_slice())?;
+    empty(alloc, out);
     Ok(())
+}
+
+// Empties the place for a reply. Where that was long, its room is given back.
+fn empty(alloc: Global, out: &mut Blob)
+    ensures empty { out.new ≡ [] }
+{
+    if out.len() > MOST_KEPT {
+        *out = Blob::new(alloc);
+    } else {
+        out.truncate(0);
+    }
 }
 
 // The next piece of an input of which so many bytes were taken. Nothing comes at its end.
@@ -183,7 +197,7 @@ fn next_piece<S: Source>(source: &mut S, buffer: &mut [u8], taken: u64) -> Resul
     ensures stop { IfErr result (λ status. TakeStops status
         (record { old = S.left source.old; new = S.left source.new; faults_old = S.faults source.old; faults_new = S.faults source.new })) }
     ensures too_long { IfErr result (λ status. status ≡ Status.TooLong → taken ≡ 2 ^ 40) }
-    ensures later { S.faults source.old ≤ S.faults source.new }
+    ensures kept { OnOk result (S.faults source.new ≡ S.faults source.old) }
 {
     let room = MAX_INPUT - taken;
     let wanted = room.clamp(1, buffer.len() as u64) as usize;

@@ -15,7 +15,7 @@ modhost: a keyspace server in the manner of Redis
 
     modhost pipe DIR    serve the requests of standard input (RESP2) over the append-only log in the
                         folder DIR, which is begun where there is none; replies go to standard output
-    modhost --help      print this
+    modhost --help, -h  print this
     modhost --version   print the version
 ";
 
@@ -75,7 +75,7 @@ fn run_arguments(rt: &HostRuntime, arguments: &[String]) -> Status {
 
 fn run_words(rt: &HostRuntime, words: &[&str]) -> Status {
     match words {
-        ["--help", ..] => print_text(rt, HELP),
+        ["--help" | "-h", ..] => print_text(rt, HELP),
         ["--version", ..] => print_text(rt, VERSION),
         _ => {
             let folder = words.get(1).copied().unwrap_or(".");

@@ -1,6 +1,6 @@
 //! Effects of the log, made again in the keys.
 
-ghost use Rattle.std.specs.Prelude.{◌≡◌};
+ghost use Rattle.std.specs.Prelude.{◌≡◌, false};
 ghost use Rattle.modhost.specs.Replay.{replay};
 
 use crate::command::Command;
@@ -15,6 +15,8 @@ impl Replayer for KeyStore {
 
     ghost meaning = { replay };
 
+    ghost is_spent = { λ _. false };
+
     fn replay(&mut self, alloc: Global, effect: &Effect) -> Result<(), ReplayStop> {
         let words = effect.words.as_slice();
         match Command::named(words[0].as_slice()) {
@@ -26,8 +28,10 @@ impl Replayer for KeyStore {
                 remove_each(self, &words[1..]);
                 Ok(())
             }
-            Some(Command::Set | Command::Del) => { Err(ReplayStop::Refused(Reason::EffectRefused)) }
-            _ => Err(ReplayStop::Refused(Reason::NotAnEffect)),
+            Some(Command::Set | Command::Del) => {
+                Err(ReplayStop::Refused(0, Reason::EffectRefused))
+            }
+            _ => Err(ReplayStop::Refused(0, Reason::NotAnEffect)),
         }
     }
 }

@@ -147,7 +147,8 @@ impl From<OpenStop> for Status {
             },
             OpenStop::NotBuilt => Status::NotBuilt(1),
             OpenStop::Dir => Status::DirFault,
-            OpenStop::Memory => Status::Memory,
+            // The keys count nothing that could be spent.
+            OpenStop::Stopped(_) => Status::Memory,
         }
     }
 }

@@ -1,10 +1,11 @@
 //! The top call: all that the program does, over any directory, source and sink.
 
 ghost use Rattle.std.specs.Prelude.{ℕ, ◌≡◌, ◌⊎◌, ◌↔◌, Some, IfSome, map};
-ghost use Rattle.core_types.specs.Causes.{Rose};
+ghost use Rattle.modhost.specs.Counted.{Counted};
 ghost use Rattle.core_types.specs.declared.bad_request.BadRequest.{BadRequest};
 ghost use Rattle.disk_model.specs.declared.file_name.FileName.{FileName};
 ghost use Rattle.disk_model.specs.Files.{IsThere};
+ghost use Rattle.disk_model.specs.Told.{files_told};
 ghost use Rattle.effect_log.specs.declared.reason.Reason.{Reason};
 ghost use Rattle.restart.specs.Restart.{HasDumpAlone};
 ghost use Rattle.modhost.specs.Words.{usage_fault};
@@ -44,51 +45,51 @@ pub fn modhost<D: Dir, S: Source, K: Sink>(
     ensures usage { (place : ℕ) → (result.status ≡ Status.Usage place)
         ↔ (usage_fault (map (λ word. word.now) words.now) ≡ Some place) }
     ensures usage_untouched { (place : ℕ) → result.status ≡ Status.Usage place → IsUntouched
-        (outside (S.left source.old) (S.left source.new) (K.got sink.old) (K.got sink.new) (D.files dir) (D.files result.dir)) }
+        (outside (S.left source.old) (S.left source.new) (K.got sink.old) (K.got sink.new) (files_told (D.told dir)) (files_told (D.told result.dir))) }
 
     // All requests were served, to the end of the input or to QUIT, from the keys that the directory stood for: the sink
     // got exactly their replies, the log goes on with their units, and the directory stands for the keys that they left.
     ensures done { result.status ≡ Status.Done → PipeServesAll
-        (outside (S.left source.old) (S.left source.new) (K.got sink.old) (K.got sink.new) (D.files dir) (D.files result.dir)) }
+        (outside (S.left source.old) (S.left source.new) (K.got sink.old) (K.got sink.new) (files_told (D.told dir)) (files_told (D.told result.dir))) }
 
     // The log is refused, with its first fault, and nothing is touched.
     ensures log_refused { (file : FileName) (offset : ℕ) (why : Reason) → result.status ≡ Status.LogRefused file offset why → IsRefused
-        (outside (S.left source.old) (S.left source.new) (K.got sink.old) (K.got sink.new) (D.files dir) (D.files result.dir)) file offset why }
+        (outside (S.left source.old) (S.left source.new) (K.got sink.old) (K.got sink.new) (files_told (D.told dir)) (files_told (D.told result.dir))) file offset why }
     // There is no log, and a dump is there. Nothing is touched.
-    ensures not_built { (what : ℕ) → result.status ≡ Status.NotBuilt what → (what ≡ 1) × IfSome (D.files dir) HasDumpAlone × IsUntouched
-        (outside (S.left source.old) (S.left source.new) (K.got sink.old) (K.got sink.new) (D.files dir) (D.files result.dir)) }
+    ensures not_built { (what : ℕ) → result.status ≡ Status.NotBuilt what → (what ≡ 1) × IfSome (files_told (D.told dir)) HasDumpAlone × IsUntouched
+        (outside (S.left source.old) (S.left source.new) (K.got sink.old) (K.got sink.new) (files_told (D.told dir)) (files_told (D.told result.dir))) }
 
     // The input goes on with a bad place: all before it was served, and its error was sent.
     ensures protocol { (kind : BadRequest) (offset : ℕ) → result.status ≡ Status.Protocol kind offset → PipeRefuses
-        (outside (S.left source.old) (S.left source.new) (K.got sink.old) (K.got sink.new) (D.files dir) (D.files result.dir)) kind offset }
+        (outside (S.left source.old) (S.left source.new) (K.got sink.old) (K.got sink.new) (files_told (D.told dir)) (files_told (D.told result.dir))) kind offset }
     // The input ended within a request, and all before that was served.
     ensures cut_off { (count : ℕ) → result.status ≡ Status.CutOff count → PipeCutsOff
-        (outside (S.left source.old) (S.left source.new) (K.got sink.old) (K.got sink.new) (D.files dir) (D.files result.dir)) count }
+        (outside (S.left source.old) (S.left source.new) (K.got sink.old) (K.got sink.new) (files_told (D.told dir)) (files_told (D.told result.dir))) count }
 
     // A fault comes only where its object counted one.
-    ensures dir_fault { result.status ≡ Status.DirFault → Rose (D.faults dir) (D.faults result.dir) }
-    ensures read_fault { result.status ≡ Status.ReadFault → Rose (S.faults source.old) (S.faults source.new) }
-    ensures write_fault { result.status ≡ Status.WriteFault → Rose (K.faults sink.old) (K.faults sink.new) }
+    ensures dir_fault { result.status ≡ Status.DirFault → Counted (D.told dir).faults (D.told result.dir).faults }
+    ensures read_fault { result.status ≡ Status.ReadFault → Counted (S.faults source.old) (S.faults source.new) }
+    ensures write_fault { result.status ≡ Status.WriteFault → Counted (K.faults sink.old) (K.faults sink.new) }
 
     // Opening failed, or some requests were served and of the next one's unit a front is in the log.
     ensures dir_fault_leaves { result.status ≡ Status.DirFault → OpensNot
-        (outside (S.left source.old) (S.left source.new) (K.got sink.old) (K.got sink.new) (D.files dir) (D.files result.dir))
+        (outside (S.left source.old) (S.left source.new) (K.got sink.old) (K.got sink.new) (files_told (D.told dir)) (files_told (D.told result.dir)))
         ⊎ PipeLogsPart
-        (outside (S.left source.old) (S.left source.new) (K.got sink.old) (K.got sink.new) (D.files dir) (D.files result.dir)) }
+        (outside (S.left source.old) (S.left source.new) (K.got sink.old) (K.got sink.new) (files_told (D.told dir)) (files_told (D.told result.dir))) }
     // Some requests were served, and of the last reply, or of the error of a bad request, only a front was sent.
     ensures write_fault_leaves { result.status ≡ Status.WriteFault → PipeSendsPart
-        (outside (S.left source.old) (S.left source.new) (K.got sink.old) (K.got sink.new) (D.files dir) (D.files result.dir)) }
+        (outside (S.left source.old) (S.left source.new) (K.got sink.old) (K.got sink.new) (files_told (D.told dir)) (files_told (D.told result.dir))) }
     // All that was taken was served, and more was wanted where the source failed.
     ensures read_fault_leaves { result.status ≡ Status.ReadFault → PipeStopsReading
-        (outside (S.left source.old) (S.left source.new) (K.got sink.old) (K.got sink.new) (D.files dir) (D.files result.dir)) }
+        (outside (S.left source.old) (S.left source.new) (K.got sink.old) (K.got sink.new) (files_told (D.told dir)) (files_told (D.told result.dir))) }
     // 2^40 bytes were taken and served, more were wanted, and more came.
     ensures too_long { result.status ≡ Status.TooLong → PipeStopsAtLimit
-        (outside (S.left source.old) (S.left source.new) (K.got sink.old) (K.got sink.new) (D.files dir) (D.files result.dir)) }
+        (outside (S.left source.old) (S.left source.new) (K.got sink.old) (K.got sink.new) (files_told (D.told dir)) (files_told (D.told result.dir))) }
     // Nothing was touched, or some requests were served.
     ensures memory_leaves { result.status ≡ Status.Memory → IsUntouched
-        (outside (S.left source.old) (S.left source.new) (K.got sink.old) (K.got sink.new) (D.files dir) (D.files result.dir))
+        (outside (S.left source.old) (S.left source.new) (K.got sink.old) (K.got sink.new) (files_told (D.told dir)) (files_told (D.told result.dir)))
         ⊎ PipeServesSome
-        (outside (S.left source.old) (S.left source.new) (K.got sink.old) (K.got sink.new) (D.files dir) (D.files result.dir)) }
+        (outside (S.left source.old) (S.left source.new) (K.got sink.old) (K.got sink.new) (files_told (D.told dir)) (files_told (D.told result.dir))) }
 {
     match read_words(words) {
         Ok(Job::Pipe) => pipe(alloc, dir, source, sink),
@@ -107,8 +108,8 @@ fn pipe<D: Dir, S: Source, K: Sink>(
     sink: &mut K,
 ) -> Ended<D>
     ensures { PipeEnds result.status
-        (outside (S.left source.old) (S.left source.new) (K.got sink.old) (K.got sink.new) (D.files dir) (D.files result.dir))
-        (D.faults dir) (D.faults result.dir) (S.faults source.old) (S.faults source.new) (K.faults sink.old) (K.faults sink.new) }
+        (outside (S.left source.old) (S.left source.new) (K.got sink.old) (K.got sink.new) (files_told (D.told dir)) (files_told (D.told result.dir)))
+        (D.told dir).faults (D.told result.dir).faults (S.faults source.old) (S.faults source.new) (K.faults sink.old) (K.faults sink.new) }
 {
     let mut keys = KeyStore::new(alloc);
     match open_log(alloc, &mut dir, &mut keys) {
@@ -127,11 +128,11 @@ fn serve<D: Dir, S: Source, K: Sink>(
     source: &mut S,
     sink: &mut K,
 ) -> Ended<D>
-    requires log { IsThere FileName.Log (D.files host.dir) }
+    requires log { IsThere FileName.Log (files_told (D.told host.dir)) }
     ensures { ServeEnds result.status
-        (outside (S.left source.old) (S.left source.new) (K.got sink.old) (K.got sink.new) (D.files host.dir) (D.files result.dir))
-        (opening_at (D.files host.dir) host.keys)
-        (D.faults host.dir) (D.faults result.dir) (S.faults source.old) (S.faults source.new) (K.faults sink.old) (K.faults sink.new) }
+        (outside (S.left source.old) (S.left source.new) (K.got sink.old) (K.got sink.new) (files_told (D.told host.dir)) (files_told (D.told result.dir)))
+        (opening_at (files_told (D.told host.dir)) host.keys)
+        (D.told host.dir).faults (D.told result.dir).faults (S.faults source.old) (S.faults source.new) (K.faults sink.old) (K.faults sink.new) }
 {
     let served = serve_source(alloc, &mut host, source, sink);
     let Host { dir, keys } = host;

@@ -4,12 +4,13 @@ use Rattle.std.specs.List.{flat_map, AllByRecursion}
 use Rattle.std.proofs.lemmas.Bool.{eq-eqb}
 use Rattle.std.proofs.lemmas.List.{length-append, length-drop, length_push, drop-drop, flat_map_more}
 use Rattle.core_types.specs.declared.bad_request.BadRequest.{BadRequest}
+use Rattle.resp_codec.specs.Marks.{header}
 use Rattle.resp_codec.specs.Inline.{begins_array}
 use Rattle.resp_codec.specs.Spelling.{bulk, IsWord}
 use Rattle.resp_codec.specs.Faults.{IsBegun, BadAt}
 use Rattle.resp_codec.specs.Stream.{IsUnfinished}
-use Rattle.resp_codec.specs.Header.{header, Judges}
-use Rattle.resp_codec.specs.Word.{BeginsBulk, JudgesWord}
+use Rattle.resp_codec.specs.inner.Header.{Judges}
+use Rattle.resp_codec.specs.inner.Word.{BeginsBulk, JudgesWord}
 use Rattle.resp_codec.specs.Array.{IsFront}
 use Rattle.resp_codec.specs.declared.array.Array.TheVariants as array
 use Rattle.resp_codec.specs.declared.header.Header.TheVariants as found

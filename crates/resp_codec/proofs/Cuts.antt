@@ -1,7 +1,7 @@
 -- A list cut before its first byte of some kind.
-use Rattle.std.proofs.Common.{◌≡◌, ℕ, zero, suc, ◌≤◌, Bool, true, false, cond, List, [], ◌∷◌, ◌++◌, length, take, refl, ap, arith}
+use Rattle.std.proofs.Common.{◌≡◌, ℕ, zero, suc, ◌<◌, ◌≤◌, Bool, true, false, cond, List, [], ◌∷◌, ◌++◌, length, take, get_or, refl, ap, arith, inl, inr}
 use Rattle.std.specs.List.{list_any}
-use Rattle.std.proofs.lemmas.Bool.{or_parts}
+use Rattle.std.proofs.lemmas.Bool.{or_parts, cases_Bool}
 
 -- what stands before the first such byte, and from it on
 abbrev pub before_first : (ℕ → Bool) → List ℕ → List ℕ
@@ -43,3 +43,28 @@ before_first-long stops (suc n) [] long none = absurd (omega arith)
 before_first-long stops (suc n) (byte ∷ text) long none =
     let parts = or_parts (stops byte) (list_any stops (take n text)) none in
     rw parts.0 (omega (arith, before_first-long stops n text (omega arith) parts.1))
+
+-- where a search among so many bytes ends
+pub record SearchEnd (stops : ℕ → Bool) (most : ℕ) (bytes : List ℕ) : Type 0 where
+  pub end : ℕ
+  pub within : end ≤ length bytes
+  pub near : end ≤ most
+  pub none : list_any stops (take end bytes) ≡ false
+  pub there : end < length bytes → end < most → stops (get_or bytes end 0) ≡ true
+
+pub search_among : (stops : ℕ → Bool) (most : ℕ) (bytes : List ℕ) → SearchEnd stops most bytes
+search_among stops zero bytes = record { end = 0; within = omega arith; near = omega arith; none = refl; there = λ _ less. absurd (omega arith) }
+search_among stops (suc most) [] = record { end = 0; within = omega arith; near = omega arith; none = refl; there = λ less _. absurd (omega arith) }
+search_among stops (suc most) (byte ∷ bytes) =
+    elim (cases_Bool (stops byte)) [
+      | inl here ↦ record { end = 0; within = omega arith; near = omega arith; none = refl; there = λ _ _. here }
+      | inr other ↦
+          let further = search_among stops most bytes in
+          record {
+            end = suc further.end;
+            within = omega (arith, further.within);
+            near = omega (arith, further.near);
+            none = rw other further.none;
+            there = λ inside close. further.there (omega arith) (omega arith);
+          }
+    ]

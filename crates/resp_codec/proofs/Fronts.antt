@@ -1,17 +1,16 @@
 -- What stands at the front of any bytes, and that it is one thing.
-use Rattle.std.proofs.Common.{◌≡◌, ◌≢◌, ◌⊎◌, ℕ, zero, suc, ◌+◌, ◌^◌, ◌<◌, ◌≤◌, true, false, cond, eqb, List, [], ◌∷◌, ◌++◌, length, take, drop, get_or, slice_get, Option, Some, None, refl, sym, ap, subst, ◌∙◌, append-nil, arith, inl, inr}
-use Rattle.std.specs.List.{list_any, flat_map}
+use Rattle.std.proofs.Common.{◌≡◌, ◌≢◌, ◌⊎◌, ℕ, zero, suc, ◌+◌, ◌^◌, ◌<◌, ◌≤◌, true, cond, eqb, List, [], ◌∷◌, ◌++◌, length, take, drop, get_or, slice_get, Option, Some, None, refl, sym, ap, subst, ◌∙◌, append-nil, arith, inl, inr}
+use Rattle.std.specs.List.{flat_map}
 use Rattle.std.specs.Fmt.{decimal}
 use Rattle.std.proofs.lemmas.Bool.{cases_Bool, cases_lt, eqb-true, eqb-false, false≢true}
 use Rattle.std.proofs.lemmas.List.{length_push}
-use Rattle.std.proofs.lemmas.Fmt.{decimal_injective}
+use Rattle.resp_codec.specs.Marks.{crlf, header}
 use Rattle.resp_codec.specs.Inline.{begins_array}
-use Rattle.resp_codec.specs.Spelling.{crlf, bulk, multibulk}
-use Rattle.resp_codec.specs.Faults.{IsNoCount, IsHeaderText}
-use Rattle.resp_codec.specs.Number.{IsCount}
-use Rattle.resp_codec.specs.Line.{IsSearchEnd, IsFound}
-use Rattle.resp_codec.specs.Header.{header, Judges, IsHeaderLine}
-use Rattle.resp_codec.specs.Word.{JudgesWord}
+use Rattle.resp_codec.specs.Spelling.{bulk, multibulk}
+use Rattle.resp_codec.specs.Faults.{IsHeaderText}
+use Rattle.resp_codec.specs.inner.Line.{IsSearchEnd, IsFound}
+use Rattle.resp_codec.specs.inner.Header.{Judges, IsHeaderLine}
+use Rattle.resp_codec.specs.inner.Word.{JudgesWord}
 use Rattle.resp_codec.specs.Array.{IsFront}
 use Rattle.resp_codec.specs.declared.line.LineEnd.{LineEnd}
 use Rattle.resp_codec.specs.declared.line.LineEnd.TheVariants as line_end
@@ -22,45 +21,20 @@ use Rattle.resp_codec.specs.declared.word.Word.TheVariants as word
 use Rattle.resp_codec.specs.declared.array.Array.{Array}
 use Rattle.resp_codec.specs.declared.array.Array.TheVariants as array
 use Rattle.core_types.specs.declared.bad_request.BadRequest.TheVariants.{MultibulkLength, BulkLength, ExpectedDollar, LineTooLong, NoLineEnd}
-use Rattle.resp_codec.proofs.Counts.{natural, natural-decimal, natural-some}
+use Rattle.resp_codec.proofs.Cuts.{search_among}
+use Rattle.resp_codec.proofs.Counts.{natural, natural-decimal, natural-some, Counted, count_read}
 use Rattle.resp_codec.proofs.Judging.{Judged, judge}
 use Rattle.resp_codec.proofs.Judging.Judged.{Took, Passed, Short, Wrong}
 use Rattle.resp_codec.proofs.Verdicts.{spells_verdict, skips_verdict, bad_verdict}
-use Rattle.resp_codec.proofs.ReaderNumbers.{IsCount-plain, IsCount-signed, IsNoCount-plain, IsNoCount-signed}
 use Rattle.resp_codec.proofs.ReaderHeaders.{Judges-endless, Judges-open, Judges-line, Judges-missing}
 use Rattle.resp_codec.proofs.ReaderSteps.{mark_text, header_parts, empty_array, unfinished_length, due_length, bad_length, bad_mark}
 use Rattle.resp_codec.proofs.Words.{JudgesWord-open, JudgesWord-missing, JudgesWord-whole, header_size}
 use Rattle.resp_codec.proofs.Arrays.{HasRead, HasRead-push, HasRead-open, HasRead-bad, HasRead-whole, array-open, array-bad}
 
--- where a search among so many bytes ends
-record SearchEnd (sought most : ℕ) (bytes : List ℕ) : Type 0 where
-  end : ℕ
-  within : end ≤ length bytes
-  near : end ≤ most
-  none : list_any (λ byte. eqb byte sought) (take end bytes) ≡ false
-  there : end < length bytes → end < most → get_or bytes end 0 ≡ sought
-
-search_among : (sought most : ℕ) (bytes : List ℕ) → SearchEnd sought most bytes
-search_among sought zero bytes = record { end = 0; within = omega arith; near = omega arith; none = refl; there = λ _ less. absurd (omega arith) }
-search_among sought (suc most) [] = record { end = 0; within = omega arith; near = omega arith; none = refl; there = λ less _. absurd (omega arith) }
-search_among sought (suc most) (byte ∷ bytes) =
-    elim (cases_Bool (eqb byte sought)) [
-      | inl same ↦ record { end = 0; within = omega arith; near = omega arith; none = refl; there = λ _ _. eqb-true byte sought same }
-      | inr other ↦
-          let further = search_among sought most bytes in
-          record {
-            end = suc further.end;
-            within = omega (arith, further.within);
-            near = omega (arith, further.near);
-            none = rw other further.none;
-            there = λ inside close. further.there (omega arith) (omega arith);
-          }
-    ]
-
 search_end : (bytes : List ℕ) → (end : ℕ) × IsSearchEnd 13 end bytes
 search_end bytes =
-    let found = search_among 13 65537 bytes in
-    (found.end, record { searched = record { within = found.within; near = found.near; none = found.none }; there = found.there })
+    let found = search_among (λ byte. eqb byte 13) 65537 bytes in
+    (found.end, record { searched = record { within = found.within; near = found.near; none = found.none }; there = λ inside near. eqb-true (get_or bytes found.end 0) 13 (found.there inside near) })
 
 line_end_found : (bytes : List ℕ) (place : ℕ) → (answer : LineEnd) × IsFound bytes place answer
 line_end_found bytes place =
@@ -103,23 +77,6 @@ numbered_as most text (Some n) small is = let number = natural-some most n text 
 
 numbered : (most : ℕ) (text : List ℕ) → most < 2 ^ 64 → Numbered most text
 numbered most text small = numbered_as most text (natural most text) small refl
-
--- a number above zero, or none
-count_signed : (text : List ℕ) → get_or text 0 0 ≡ 45 → Numbered (2 ^ 63) (drop 1 text) → ((n : ℕ) × IsCount text n) ⊎ IsNoCount text
-count_signed text sign (inl (zero, few, e)) = inr (IsNoCount-signed text sign (λ n some small is. omega (arith, decimal_injective n 0 (omega arith) (omega arith) (sym is ∙ e))))
-count_signed text sign (inl (suc n, few, e)) = inl (0, IsCount-signed text (suc n) (omega arith) few sign e)
-count_signed text sign (inr other) = inr (IsNoCount-signed text sign (λ n some small is. other n small is))
-
-count_plain : (text : List ℕ) → get_or text 0 0 ≢ 45 → Numbered 1048576 text → ((n : ℕ) × IsCount text n) ⊎ IsNoCount text
-count_plain text plain (inl (n, few, e)) = inl (n, IsCount-plain text n few e)
-count_plain text plain (inr other) = inr (IsNoCount-plain text plain other)
-
-count_read : (text : List ℕ) → ((n : ℕ) × IsCount text n) ⊎ IsNoCount text
-count_read text =
-    elim (cases_Bool (eqb (get_or text 0 0) 45)) [
-      | inl sign ↦ count_signed text (eqb-true (get_or text 0 0) 45 sign) (numbered (2 ^ 63) (drop 1 text) (omega arith))
-      | inr plain ↦ count_plain text (eqb-false (get_or text 0 0) 45 plain) (numbered 1048576 text (omega arith))
-    ]
 
 word_bytes : (bytes : List ℕ) (start len : ℕ) → start ≤ length bytes → len ≤ 536870912 → bytes ≡ header 36 len ++ drop start bytes → (found : LineEnd) → IsFound (drop start bytes) len found → (answer : Word) × JudgesWord bytes answer
 word_bytes bytes start len within small parts line_end.Open found = (word.Open, JudgesWord-open bytes start len small parts found)
@@ -165,7 +122,7 @@ words_judged (suc n) bytes count words place read some left =
     let judged = word_judged (drop place bytes) in
     word_next bytes count words place read (omega arith) judged.0 judged.1 (λ word size further. words_judged n bytes count (words ++ word ∷ []) (place + size) further some (omega (arith, length_push words word)))
 
-array_count : (bytes : List ℕ) (end : ℕ) → begins_array bytes ≡ true → slice_get bytes 0 ≡ Some 42 → IsHeaderLine bytes end → ((n : ℕ) × IsCount (drop 1 (take end bytes)) n) ⊎ IsNoCount (drop 1 (take end bytes)) → (answer : Array) × IsFront bytes answer
+array_count : (bytes : List ℕ) (end : ℕ) → begins_array bytes ≡ true → slice_get bytes 0 ≡ Some 42 → IsHeaderLine bytes end → Counted (drop 1 (take end bytes)) → (answer : Array) × IsFront bytes answer
 array_count bytes end is mark line (inl (zero, none)) =
     (array.Empty, record { front = take end bytes ++ crlf; more = drop (end + 2) bytes; empty = empty_array end bytes mark line none; whole = line.parts })
 array_count bytes end is mark line (inl (suc n, (few, e))) =
@@ -186,11 +143,19 @@ array_count bytes end is mark line (inr no_count) = (
     record {
       array = is;
       bad = record {
-        text = drop 1 (take end bytes);
-        more = drop (end + 2) bytes;
-        header = header_parts 42 end bytes mark (λ e. omega arith) line;
-        is_text = subst (λ (text : List ℕ). IsHeaderText text) (mark_text 42 end bytes mark (λ e. omega arith) line) line.is_text;
-        no_count = no_count;
+        before = [];
+        here = bytes;
+        offset = 0;
+        whole = refl;
+        due = (refl, is);
+        wrong = record {
+          text = drop 1 (take end bytes);
+          more = drop (end + 2) bytes;
+          line = header_parts 42 end bytes mark (λ e. omega arith) line;
+          is_text = subst (λ (text : List ℕ). IsHeaderText text) (mark_text 42 end bytes mark (λ e. omega arith) line) line.is_text;
+          none = no_count;
+          place = refl;
+        };
         place = refl;
       };
     },

@@ -6,8 +6,9 @@ use Rattle.std.proofs.lemmas.Bool.{false≢true, ne_eqb, lt-ltb, le-ltb}
 use Rattle.std.proofs.lemmas.List.{length-append, take_at, drop_at}
 use Rattle.core_types.specs.declared.bad_request.BadRequest.{BadRequest}
 use Rattle.core_types.specs.declared.bad_request.BadRequest.TheVariants.{MultibulkLength, BulkLength, ExpectedDollar, LineTooLong, NoLineEnd, Quote}
+use Rattle.resp_codec.specs.Marks.{crlf}
 use Rattle.resp_codec.specs.Inline.{begins_array, is_quote, line_words}
-use Rattle.resp_codec.specs.Spelling.{crlf, bulk, IsWord}
+use Rattle.resp_codec.specs.Spelling.{bulk, IsWord}
 use Rattle.resp_codec.specs.Faults.{IsHeaderText, IsBegun}
 use Rattle.resp_codec.proofs.Cuts.{before_first, from_first, before_first-at, from_first-at, before_first-none, from_first-none, before_first-long}
 use Rattle.resp_codec.proofs.Counts.{natural, natural-decimal, count_of, count_of-decimal, IsHeaderText-decimal}
@@ -200,6 +201,10 @@ pub judge-bad : (before rest : List ℕ) (kind : BadRequest) (at : ℕ) → IsBe
 judge-bad before rest kind at begun bad =
     let due = judge-due before rest begun in
     due.2 ∙ ap (λ (p : Piece). judge_piece p (length before) (λ word taken more. judge_words due.0 (due.1 ++ word ∷ []) (length before + taken) more)) bad
+
+pub judge-none : judge [] ≡ Short
+unfolding judge
+judge-none = refl
 
 pub judge_at_array : (bytes : List ℕ) → begins_array bytes ≡ true → judge bytes ≡ judge_head (head bytes)
 unfolding judge

@@ -5,10 +5,11 @@ pub mod Verdicts
 pub mod OneReading
 pub mod InlineWords
 pub mod ReaderHeaders
-pub mod ReaderNumbers
 pub mod ReaderSteps
 pub mod Words
 pub mod Arrays
 pub mod Fronts
 pub mod Passing
-pub mod WritingDigits
+pub mod Spans
+pub mod LineFronts
+pub mod WholeReadings

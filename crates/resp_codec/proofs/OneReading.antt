@@ -1,13 +1,14 @@
 -- One reading of a stream.
-use Rattle.std.proofs.Common.{◌+◌, ◌≡◌, ◌≢◌, ℕ, ◌<◌, ◌≤◌, Bool, true, false, ◌==◌, List, [], ◌∷◌, ◌++◌, length, take, refl, sym, ap, subst, ◌∙◌, append_assoc, arith, inl, inr}
-use Rattle.std.specs.List.{list_any, concat}
-use Rattle.std.specs.Fmt.{decimal}
+use Rattle.std.proofs.Common.{◌+◌, ◌≡◌, ◌≢◌, ℕ, ◌<◌, Bool, true, false, List, [], ◌∷◌, ◌++◌, length, take, refl, sym, ap, subst, ◌∙◌, append_assoc, arith, inl, inr}
+use Rattle.std.specs.List.{concat}
+use Rattle.std.proofs.lemmas.Bool.{false≢true}
 use Rattle.std.proofs.lemmas.List.{take_at, take-append-le, length-append}
 use Rattle.core_types.specs.declared.bad_request.BadRequest.{BadRequest}
 use Rattle.core_types.specs.declared.bad_request.BadRequest.TheVariants.{MultibulkLength, BulkLength, ExpectedDollar, LineTooLong, NoLineEnd, Quote}
-use Rattle.resp_codec.specs.Spelling.{crlf, Spells, Skips, SkipsAll}
+use Rattle.resp_codec.specs.Marks.{marked, header}
+use Rattle.resp_codec.specs.Spelling.{Spells, Skips, SkipsAll}
 use Rattle.resp_codec.specs.Inline.{begins_array}
-use Rattle.resp_codec.specs.Faults.{HeaderDue, LongHeader, LoneReturn, BadWordEnd, BadAt}
+use Rattle.resp_codec.specs.Faults.{CountDue, HeaderDue, LineDue, WrongAt, IsNoCount, IsNoLength, BadNumber, OtherMark, Endless, LoneReturn, BadWordEnd, QuotedLine, BadAt}
 use Rattle.resp_codec.specs.Stream.{Stream, Takes, Waits, Refuses}
 use Rattle.resp_codec.proofs.Judging.{judge}
 use Rattle.resp_codec.proofs.Judging.Judged.{Took, Passed, Wrong}
@@ -46,114 +47,114 @@ pub skip_no_fault : (a x : List ℕ) (kind : BadRequest) (at : ℕ) → Skips a 
 skip_no_fault a x kind at of_a bad =
     let same : Passed (length a) ≡ Wrong kind at = sym (skips_verdict a x of_a) ∙ bad_verdict (a ++ x) kind at bad in cc
 
-take_stays : (n : ℕ) (front more : List ℕ) (test : ℕ → Bool) → n ≤ length front → list_any test (take n front) ≡ false → list_any test (take n (front ++ more)) ≡ false
-take_stays n front more test long none = rw (take-append-le n front more long) none
-
-length_stays : (n : ℕ) (front more : List ℕ) → n ≤ length front → n ≤ length (front ++ more)
-length_stays n front more long = omega (arith, length-append front more)
-
 array_stays : (bytes more : List ℕ) (b : Bool) → 0 < length bytes → begins_array bytes ≡ b → begins_array (bytes ++ more) ≡ b
 array_stays [] more b some array = absurd (omega arith)
 array_stays (byte ∷ bytes) more b some array = array
 
-due_stays : (before header more : List ℕ) → 0 < length header → HeaderDue before header → HeaderDue before (header ++ more)
-due_stays before header more some (inl (none, array)) = inl (none, array_stays header more true some array)
-due_stays before header more some (inr (begun, (rest, mark))) = inr (begun, (rest ++ more, ap (λ (bytes : List ℕ). bytes ++ more) mark))
+count_some : (bytes : List ℕ) → begins_array bytes ≡ true → 0 < length bytes
+count_some [] array = absurd (false≢true array)
+count_some (byte ∷ bytes) array = omega arith
+
+count_stays : (before here more : List ℕ) → CountDue before here → CountDue before (here ++ more)
+count_stays before here more (none, array) = (none, array_stays here more true (count_some here array) array)
+
+header_stays : (before here more : List ℕ) → HeaderDue before here → HeaderDue before (here ++ more)
+header_stays before here more (inl count) = inl (count_stays before here more count)
+header_stays before here more (inr (begun, (rest, mark))) = inr (begun, (rest ++ more, ap (λ (bytes : List ℕ). bytes ++ more) mark))
+
+line_stays : (before here more : List ℕ) → 0 < length here → LineDue before here → LineDue before (here ++ more)
+line_stays before here more some (none, line) = (none, array_stays here more false some line)
 
 -- one thing behind another
 further : (bytes front rest more : List ℕ) → bytes ≡ front ++ rest → bytes ++ more ≡ front ++ (rest ++ more)
 further bytes front rest more e = ap (λ (bs : List ℕ). bs ++ more) e ∙ append_assoc front rest more
 
-long_header_stays : (bytes more : List ℕ) (at : ℕ) → LongHeader bytes at → LongHeader (bytes ++ more) at
-long_header_stays bytes more at bad = record {
-  before = bad.before;
-  rest = bad.rest ++ more;
-  due = due_stays bad.before bad.rest more (omega (arith, bad.long)) bad.due;
-  all = further bytes bad.before bad.rest more bad.all;
-  long = length_stays 65537 bad.rest more bad.long;
-  unbroken = take_stays 65537 bad.rest more (λ byte. byte == 13) bad.long bad.unbroken;
+number_stays : (mark : ℕ) (IsNone : List ℕ → Type 0) (here more : List ℕ) (offset : ℕ) → BadNumber mark IsNone here offset → BadNumber mark IsNone (here ++ more) offset
+number_stays mark IsNone here more offset bad = record {
+  text = bad.text;
+  more = bad.more ++ more;
+  line = further here (marked mark bad.text) bad.more more bad.line;
+  is_text = bad.is_text;
+  none = bad.none;
   place = bad.place;
 }
 
-lone_return_stays : (bytes more : List ℕ) (at : ℕ) → LoneReturn bytes at → LoneReturn (bytes ++ more) at
-lone_return_stays bytes more at bad =
-    let parts : (bad.text ++ 13 ∷ bad.byte ∷ bad.more) ++ more ≡ bad.text ++ 13 ∷ bad.byte ∷ (bad.more ++ more) = append_assoc bad.text (13 ∷ bad.byte ∷ bad.more) more in
+mark_stays : (mark : ℕ) (here more : List ℕ) (offset : ℕ) → OtherMark mark here offset → OtherMark mark (here ++ more) offset
+mark_stays mark here more offset bad = record { more = bad.more ++ more; begins = ap (λ (bs : List ℕ). bs ++ more) bad.begins; other = bad.other; place = bad.place }
+
+endless_stays : (end : ℕ) (here more : List ℕ) (offset : ℕ) → Endless end here offset → Endless end (here ++ more) offset
+endless_stays end here more offset bad = record {
+  long = omega (arith, bad.long, length-append here more);
+  unbroken = rw (take-append-le 65537 here more bad.long) bad.unbroken;
+  place = bad.place;
+}
+
+return_stays : (here more : List ℕ) (offset : ℕ) → LoneReturn here offset → LoneReturn (here ++ more) offset
+return_stays here more offset bad = record {
+  text = bad.text;
+  byte = bad.byte;
+  more = bad.more ++ more;
+  all = further here bad.text (13 ∷ bad.byte ∷ bad.more) more bad.all;
+  is_text = bad.is_text;
+  other = bad.other;
+  place = bad.place;
+}
+
+word_end_stays : (here more : List ℕ) (offset : ℕ) → BadWordEnd here offset → BadWordEnd (here ++ more) offset
+word_end_stays here more offset bad =
+    let front = header 36 (length bad.word) in
+    let rest = bad.end ++ bad.byte ∷ bad.more in
+    let parts : here ++ more ≡ front ++ (bad.word ++ (rest ++ more)) = further here front (bad.word ++ rest) more bad.all ∙ ap (λ (bs : List ℕ). front ++ bs) (append_assoc bad.word rest more) in
     record {
-      before = bad.before;
-      text = bad.text;
+      word = bad.word;
+      end = bad.end;
       byte = bad.byte;
       more = bad.more ++ more;
-      due = subst (λ (header : List ℕ). HeaderDue bad.before header) parts (due_stays bad.before (bad.text ++ 13 ∷ bad.byte ∷ bad.more) more (omega (arith, length-append bad.text (13 ∷ bad.byte ∷ bad.more))) bad.due);
-      all = further bytes bad.before (bad.text ++ 13 ∷ bad.byte ∷ bad.more) more bad.all ∙ ap (λ (bs : List ℕ). bad.before ++ bs) parts;
-      is_text = bad.is_text;
+      is_word = bad.is_word;
+      all = parts ∙ ap (λ (bs : List ℕ). front ++ (bad.word ++ bs)) (append_assoc bad.end (bad.byte ∷ bad.more) more);
       other = bad.other;
       place = bad.place;
     }
 
-word_end_stays : (bytes more : List ℕ) (at : ℕ) → BadWordEnd bytes at → BadWordEnd (bytes ++ more) at
-word_end_stays bytes more at bad =
-    let front = bad.before ++ 36 ∷ decimal (length bad.word) ++ crlf ++ bad.word in
-    record {
-      before = bad.before;
-      word = bad.word;
-      byte = bad.byte;
-      more = bad.more ++ more;
-      begun = bad.begun;
-      is_word = bad.is_word;
-      ends = elim bad.ends [
-        | inl (e, (other, place)) ↦ inl (further bytes front (bad.byte ∷ bad.more) more e, (other, place))
-        | inr (e, (other, place)) ↦ inr (further bytes front (13 ∷ bad.byte ∷ bad.more) more e, (other, place))
-      ];
-    }
-
--- what is bad stays so when more bytes come
-pub fault_stays : (bytes more : List ℕ) (kind : BadRequest) (at : ℕ) → BadAt bytes kind at → BadAt (bytes ++ more) kind at
-fault_stays bytes more MultibulkLength at bad = record {
-  text = bad.text;
-  more = bad.more ++ more;
-  header = further bytes (42 ∷ bad.text ++ crlf) bad.more more bad.header;
-  is_text = bad.is_text;
-  no_count = bad.no_count;
-  place = bad.place;
-}
-fault_stays bytes more BulkLength at bad = record {
-  before = bad.before;
-  text = bad.text;
-  more = bad.more ++ more;
-  begun = bad.begun;
-  header = further bytes (bad.before ++ 36 ∷ bad.text ++ crlf) bad.more more bad.header;
-  is_text = bad.is_text;
-  no_length = bad.no_length;
-  place = bad.place;
-}
-fault_stays bytes more (ExpectedDollar mark) at bad = record {
-  before = bad.before;
-  more = bad.more ++ more;
-  begun = bad.begun;
-  header = further bytes bad.before (mark ∷ bad.more) more bad.header;
-  other = bad.other;
-  place = bad.place;
-}
-fault_stays bytes more LineTooLong at (inl bad) = inl (long_header_stays bytes more at bad)
-fault_stays bytes more LineTooLong at (inr bad) = inr record {
-  no_array = array_stays bytes more false (omega (arith, bad.long)) bad.no_array;
-  long = length_stays 65537 bytes more bad.long;
-  unbroken = take_stays 65537 bytes more (λ byte. byte == 10) bad.long bad.unbroken;
-  place = bad.place;
-}
-fault_stays bytes more NoLineEnd at (inl bad) = inl (lone_return_stays bytes more at bad)
-fault_stays bytes more NoLineEnd at (inr bad) = inr (word_end_stays bytes more at bad)
-fault_stays bytes more Quote at bad = record {
+quote_stays : (here more : List ℕ) (offset : ℕ) → QuotedLine here offset → QuotedLine (here ++ more) offset
+quote_stays here more offset bad = record {
   front = bad.front;
   quote = bad.quote;
   back = bad.back;
   more = bad.more ++ more;
-  line = further bytes (bad.front ++ bad.quote ∷ bad.back) (10 ∷ bad.more) more bad.line;
+  line = further here (bad.front ++ bad.quote ∷ bad.back) (10 ∷ bad.more) more bad.line;
   is_line = bad.is_line;
   quoted = bad.quoted;
   first = bad.first;
   place = bad.place;
 }
+
+quoted_some : (here : List ℕ) (offset : ℕ) → QuotedLine here offset → 0 < length here
+quoted_some here offset bad = omega (arith, ap (λ (bs : List ℕ). length bs) bad.line, length-append (bad.front ++ bad.quote ∷ bad.back) (10 ∷ bad.more))
+
+-- where more bytes come, what is due is due, and what is wrong is wrong
+stays : {Due : List ℕ → List ℕ → Type 0} {Wrong : List ℕ → ℕ → Type 0} (bytes more : List ℕ) (at : ℕ) (w : WrongAt Due Wrong bytes at) → Due w.before (w.here ++ more) → Wrong (w.here ++ more) w.offset → WrongAt Due Wrong (bytes ++ more) at
+stays bytes more at w due wrong = record {
+  before = w.before;
+  here = w.here ++ more;
+  offset = w.offset;
+  whole = further bytes w.before w.here more w.whole;
+  due = due;
+  wrong = wrong;
+  place = w.place;
+}
+
+-- what is bad stays so when more bytes come
+pub fault_stays : (bytes more : List ℕ) (kind : BadRequest) (at : ℕ) → BadAt bytes kind at → BadAt (bytes ++ more) kind at
+fault_stays bytes more MultibulkLength at w = stays bytes more at w (count_stays w.before w.here more w.due) (number_stays 42 IsNoCount w.here more w.offset w.wrong)
+fault_stays bytes more BulkLength at w = stays bytes more at w w.due (number_stays 36 IsNoLength w.here more w.offset w.wrong)
+fault_stays bytes more (ExpectedDollar mark) at w = stays bytes more at w w.due (mark_stays mark w.here more w.offset w.wrong)
+fault_stays bytes more LineTooLong at (inl w) = inl (stays bytes more at w (header_stays w.before w.here more w.due) (endless_stays 13 w.here more w.offset w.wrong))
+fault_stays bytes more LineTooLong at (inr w) =
+    inr (stays bytes more at w (line_stays w.before w.here more (omega (arith, w.wrong.long)) w.due) (endless_stays 10 w.here more w.offset w.wrong))
+fault_stays bytes more NoLineEnd at (inl w) = inl (stays bytes more at w (header_stays w.before w.here more w.due) (return_stays w.here more w.offset w.wrong))
+fault_stays bytes more NoLineEnd at (inr w) = inr (stays bytes more at w w.due (word_end_stays w.here more w.offset w.wrong))
+fault_stays bytes more Quote at w = stays bytes more at w (line_stays w.before w.here more (quoted_some w.here w.offset w.wrong) w.due) (quote_stays w.here more w.offset w.wrong)
 
 -- what is bad begins with nothing that is skipped
 nothing_skipped : (skipped : List (List ℕ)) (bytes rest : List ℕ) (kind : BadRequest) (at : ℕ) → BadAt bytes kind at → SkipsAll skipped → bytes ≡ concat skipped ++ rest → (concat skipped ≡ []) × (bytes ≡ rest)

@@ -3,10 +3,10 @@ use Rattle.std.proofs.Common.{◌≡◌, ◌≢◌, ℕ, ◌+◌, ◌≤◌, Lis
 use Rattle.std.proofs.lemmas.Grind.{common_steps}
 use Rattle.std.proofs.lemmas.List.{length-take-le, take-append-drop, take_all, drop_more, drop_all}
 use Rattle.core_types.specs.declared.bad_request.BadRequest.TheVariants.{LineTooLong, NoLineEnd}
-use Rattle.resp_codec.specs.Spelling.{crlf}
+use Rattle.resp_codec.specs.Marks.{crlf}
 use Rattle.resp_codec.specs.Faults.{IsHeaderText}
-use Rattle.resp_codec.specs.Line.{IsSearchEnd, IsFound}
-use Rattle.resp_codec.specs.Header.{Judges}
+use Rattle.resp_codec.specs.inner.Line.{IsSearchEnd, IsFound}
+use Rattle.resp_codec.specs.inner.Header.{Judges}
 use Rattle.resp_codec.specs.declared.header.Header.TheVariants as answer
 use Rattle.resp_codec.specs.declared.line.LineEnd.TheVariants as found
 use Rattle.resp_codec.proofs.Judging.{head, head-none, head-alone}
@@ -31,12 +31,12 @@ Judges-endless bytes searched = (
   omega arith,
   λ before due. inl record {
     before = before;
-    rest = bytes;
+    here = bytes;
+    offset = 0;
+    whole = refl;
     due = due;
-    all = refl;
-    long = searched.searched.within;
-    unbroken = searched.searched.none;
-    place = omega arith;
+    wrong = record { long = searched.searched.within; unbroken = searched.searched.none; place = refl };
+    place = refl;
   },
 )
 
@@ -65,19 +65,23 @@ Judges-missing bytes end at searched near (inl (same, less, other)) =
     absurd (other (ap (λ (k : ℕ). get_or bytes k 0) same ∙ searched.there (omega arith) (omega (arith, searched.searched.near))))
 Judges-missing bytes end at searched near (inr (next, less, return, other)) = (
   omega arith,
-  λ before due.
-      let parts : bytes ≡ take end bytes ++ 13 ∷ get_or bytes (end + 1) 0 ∷ drop (end + 2) bytes = two_at bytes end 13 (get_or bytes (end + 1) 0) (omega arith) return refl in
-      inl record {
-        before = before;
-        text = take end bytes;
-        byte = get_or bytes (end + 1) 0;
-        more = drop (end + 2) bytes;
-        due = rw parts at due;
-        all = ap (λ (t : List ℕ). before ++ t) parts;
-        is_text = header_text end bytes searched near;
-        other = λ e. other (ap (λ (k : ℕ). get_or bytes k 0) next ∙ e);
-        place = omega (arith, length-take-le end bytes searched.searched.within);
-      },
+  λ before due. inl record {
+    before = before;
+    here = bytes;
+    offset = at;
+    whole = refl;
+    due = due;
+    wrong = record {
+      text = take end bytes;
+      byte = get_or bytes (end + 1) 0;
+      more = drop (end + 2) bytes;
+      all = two_at bytes end 13 (get_or bytes (end + 1) 0) (omega arith) return refl;
+      is_text = header_text end bytes searched near;
+      other = λ e. other (ap (λ (k : ℕ). get_or bytes k 0) next ∙ e);
+      place = omega (arith, length-take-le end bytes searched.searched.within);
+    };
+    place = refl;
+  },
 )
 
 pub ruleset judging = (Judges-line)

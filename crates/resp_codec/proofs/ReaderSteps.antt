@@ -1,18 +1,20 @@
 -- What the part that is due says of the stream.
 use Rattle.std.proofs.Common.{◌≡◌, ◌≢◌, ℕ, zero, suc, ◌+◌, ◌-◌, ◌<◌, ◌≤◌, false, List, [], ◌∷◌, ◌++◌, length, take, drop, get_or, slice_get, Some, None, refl, sym, ap, subst, ◌∙◌, append_assoc, arith, inl, inr}
-use Rattle.std.specs.Fmt.{decimal}
 use Rattle.std.specs.List.{flat_map, AllByRecursion, list_any}
-use Rattle.std.proofs.lemmas.List.{length-append, length-take, length-take-le, length-drop, length_push, flat_map_more, drop_all, drop_more}
+use Rattle.std.proofs.lemmas.List.{length-append, length-take, length-take-le, length-drop, length_push, flat_map_more, drop_all, drop_more, take_at, get_or-append-add}
+use Rattle.std.proofs.Math.Seq.{drop-append-add}
+use Rattle.resp_codec.specs.Marks.{crlf, header}
 use Rattle.resp_codec.specs.Inline.{begins_array, IsLine, is_quote, line_words}
-use Rattle.resp_codec.specs.Spelling.{crlf, bulk, multibulk, IsWord, IsRequest, IsInline, IsEmptyArray}
-use Rattle.resp_codec.specs.Faults.{IsBegun, HeaderDue, BadLength, BadMark, BadWordEnd, LongLine, QuotedLine, IsNoLength, IsHeaderText}
+use Rattle.resp_codec.specs.Spelling.{bulk, multibulk, IsWord, IsRequest, IsInline, IsEmptyArray}
+use Rattle.core_types.specs.declared.bad_request.BadRequest.TheVariants.{BulkLength, ExpectedDollar, LineTooLong, NoLineEnd, Quote}
+use Rattle.resp_codec.specs.Faults.{IsBegun, HeaderDue, BadWordEnd, BadAt, IsNoLength, IsHeaderText}
 use Rattle.resp_codec.specs.Stream.{IsUnfinished, SkipsOnly, Takes}
-use Rattle.resp_codec.specs.Number.{IsNoneOrFewer}
-use Rattle.resp_codec.specs.Header.{header, IsHeaderLine}
-use Rattle.resp_codec.specs.Run.{IsFirstQuote}
+use Rattle.resp_codec.specs.inner.Number.{IsNoneOrFewer}
+use Rattle.resp_codec.specs.inner.Header.{IsHeaderLine}
+use Rattle.resp_codec.specs.inner.FirstQuote.{IsFirstQuote}
 use Rattle.resp_codec.specs.declared.line.LineEnd.TheVariants as found
-use Rattle.resp_codec.specs.Line.{IsFound, IsSearchEnd, IsInlineLine}
-use Rattle.resp_codec.specs.Underway.{HasMore}
+use Rattle.resp_codec.specs.inner.Line.{IsFound, IsSearchEnd, IsInlineLine}
+use Rattle.resp_codec.specs.inner.Underway.{HasMore}
 use Rattle.resp_codec.proofs.Judging.{judge, judge-open, piece-length, piece_end}
 use Rattle.resp_codec.proofs.Judging.Piece.{NoWord}
 use Rattle.resp_codec.proofs.Verdicts.{IsUnfinished-from_short}
@@ -62,30 +64,37 @@ skips_count passed end input first line none =
     let size : length front ≡ end + 2 = omega (arith, length-append (take end input) crlf, length-take-le end input (omega (arith, line.within))) in
     SkipsOnly-one passed (passed + (end + 2)) input front (drop (end + 2) input) line.parts (omega arith) (inl (empty_array end input first line none))
 
-pub bad_length : (before input : List ℕ) (end at : ℕ) → IsBegun before → slice_get input 0 ≡ Some 36 → IsHeaderLine input end → IsNoLength (drop 1 (take end input)) → at ≡ length before → BadLength (before ++ input) at
-bad_length before input end at begun first line no_length place =
-    let text = drop 1 (take end input) in
-    let more = drop (end + 2) input in
-    record {
-      before = before;
-      text = text;
-      more = more;
-      begun = begun;
-      header = ap (λ (bytes : List ℕ). before ++ bytes) (header_parts 36 end input first (λ e. omega arith) line) ∙ sym (append_assoc before (36 ∷ text ++ crlf) more) ∙ ap (λ (bytes : List ℕ). bytes ++ more) (sym (append_assoc before (36 ∷ text) crlf));
-      is_text = subst (λ (t : List ℕ). IsHeaderText t) (mark_text 36 end input first (λ e. omega arith) line) line.is_text;
-      no_length = no_length;
-      place = place;
-    }
-
-pub bad_mark : (before input : List ℕ) (byte at : ℕ) → IsBegun before → slice_get input 0 ≡ Some byte → byte ≢ 36 → at ≡ length before → BadMark (before ++ input) byte at
-bad_mark before [] byte at begun first other place = absurd (some_none byte (sym first))
-bad_mark before (b ∷ input) byte at begun first other place = record {
+pub bad_length : (before input : List ℕ) (end at : ℕ) → IsBegun before → slice_get input 0 ≡ Some 36 → IsHeaderLine input end → IsNoLength (drop 1 (take end input)) → at ≡ length before → BadAt (before ++ input) BulkLength at
+bad_length before input end at begun first line no_length place = record {
   before = before;
-  more = input;
-  begun = begun;
-  header = ap (λ (b : ℕ). before ++ b ∷ input) (some_injective b byte first);
-  other = other;
-  place = place;
+  here = input;
+  offset = 0;
+  whole = refl;
+  due = begun;
+  wrong = record {
+    text = drop 1 (take end input);
+    more = drop (end + 2) input;
+    line = header_parts 36 end input first (λ e. omega arith) line;
+    is_text = subst (λ (t : List ℕ). IsHeaderText t) (mark_text 36 end input first (λ e. omega arith) line) line.is_text;
+    none = no_length;
+    place = refl;
+  };
+  place = omega (arith, place);
+}
+
+first_byte : (input : List ℕ) (byte : ℕ) → slice_get input 0 ≡ Some byte → input ≡ byte ∷ drop 1 input
+first_byte [] byte first = absurd (some_none byte (sym first))
+first_byte (b ∷ input) byte first = ap (λ (b : ℕ). b ∷ input) (some_injective b byte first)
+
+pub bad_mark : (before input : List ℕ) (byte at : ℕ) → IsBegun before → slice_get input 0 ≡ Some byte → byte ≢ 36 → at ≡ length before → BadAt (before ++ input) (ExpectedDollar byte) at
+bad_mark before input byte at begun first other place = record {
+  before = before;
+  here = input;
+  offset = 0;
+  whole = refl;
+  due = begun;
+  wrong = record { more = drop 1 input; begins = first_byte input byte first; other = other; place = refl };
+  place = omega (arith, place);
 }
 
 pub due_length : (before input : List ℕ) → IsBegun before → slice_get input 0 ≡ Some 36 → HeaderDue before input
@@ -115,63 +124,58 @@ unfinished_word before input len begun small open_end =
     IsUnfinished-from_short (before ++ header 36 len ++ input) (ap judge (append_assoc before (header 36 len) input)
     ∙ judge-open before (header 36 len ++ input) begun (piece-length len input small ∙ open_piece input len (length (header 36 len) + len) open_end))
 
-word_stream : (before word rest : List ℕ) → before ++ header 36 (length word) ++ (word ++ rest) ≡ before ++ 36 ∷ decimal (length word) ++ crlf ++ word ++ rest
-word_stream before word rest =
-    ap (λ (front : List ℕ). front ++ (word ++ rest)) (sym (append_assoc before (36 ∷ decimal (length word)) crlf)) ∙ sym (append_assoc (before ++ 36 ∷ decimal (length word) ++ crlf) word rest)
-
-word_place : (before word : List ℕ) → length (before ++ 36 ∷ decimal (length word) ++ crlf ++ word) ≡ length (before ++ header 36 (length word)) + length word
-word_place before word =
-    length-append (before ++ 36 ∷ decimal (length word) ++ crlf) word ∙ ap (λ (front : List ℕ). length front + length word) (append_assoc before (36 ∷ decimal (length word)) crlf)
-
-no_return : (before word more : List ℕ) (byte : ℕ) → IsBegun before → IsWord word → byte ≢ 13 → BadWordEnd (before ++ header 36 (length word) ++ (word ++ byte ∷ more)) (length (before ++ header 36 (length word)) + length word)
-no_return before word more byte begun small other = record {
-  before = before;
-  word = word;
-  byte = byte;
-  more = more;
-  begun = begun;
-  is_word = small;
-  ends = inl (word_stream before word (byte ∷ more), (other, sym (word_place before word)));
-}
-
-no_feed : (before word more : List ℕ) (byte : ℕ) → IsBegun before → IsWord word → byte ≢ 10 → BadWordEnd (before ++ header 36 (length word) ++ (word ++ 13 ∷ byte ∷ more)) (length (before ++ header 36 (length word)) + (length word + 1))
-no_feed before word more byte begun small other = record {
-  before = before;
-  word = word;
-  byte = byte;
-  more = more;
-  begun = begun;
-  is_word = small;
-  ends = inr (word_stream before word (13 ∷ byte ∷ more), (other, omega (arith, word_place before word)));
-}
-
--- the same at a word that is the front of what was not read
-at_input : (before input rest : List ℕ) (len place : ℕ) → len ≤ length input → input ≡ take len input ++ rest → BadWordEnd (before ++ header 36 (length (take len input)) ++ (take len input ++ rest)) (length (before ++ header 36 (length (take len input))) + place) →
-    BadWordEnd (before ++ header 36 len ++ input) (length (before ++ header 36 len) + place)
-at_input before input rest len place within parts bad =
-    let here = subst (λ (t : List ℕ). BadWordEnd (before ++ header 36 (length (take len input)) ++ t) (length (before ++ header 36 (length (take len input))) + place)) (sym parts) bad in
-    subst (λ (k : ℕ). BadWordEnd (before ++ header 36 k ++ input) (length (before ++ header 36 k) + place)) (length-take-le len input within) here
-
-pub bad_word_end : (before input : List ℕ) (len place : ℕ) → IsBegun before → len ≤ 536870912 → IsFound input len (found.Missing place) → BadWordEnd (before ++ header 36 len ++ input) (length (before ++ header 36 len) + place)
-bad_word_end before input len place begun small (inl (same, less, other)) =
+-- a word's bytes are there, and at this place of what follows its header stands no CR, or no LF behind one
+word_end : (input : List ℕ) (len place : ℕ) → len ≤ 536870912 → IsFound input len (found.Missing place) → BadWordEnd (header 36 len ++ input) (length (header 36 len) + place)
+word_end input len place small (inl (same, less, other)) =
     let word = take len input in
     let size : length word ≡ len = length-take-le len input (omega arith) in
     let byte = get_or input len 0 in
-    let other_byte : byte ≢ 13 = λ e. other (ap (λ (k : ℕ). get_or input k 0) same ∙ e) in
-    let place_is : place ≡ length word = omega arith in
-    at_input before input (byte ∷ drop (len + 1) input) len place (omega arith) (one_at input len byte (omega arith) refl)
-    (rw place_is (no_return before word (drop (len + 1) input) byte begun (omega arith) other_byte))
-bad_word_end before input len place begun small (inr (next, less, return, other)) =
+    record {
+      word = word;
+      end = [];
+      byte = byte;
+      more = drop (len + 1) input;
+      is_word = omega arith;
+      all = ap (λ (k : ℕ). header 36 k ++ input) (sym size) ∙ ap (λ (t : List ℕ). header 36 (length word) ++ t) (one_at input len byte (omega arith) refl);
+      other = inl (refl, λ e. other (ap (λ (k : ℕ). get_or input k 0) same ∙ e));
+      place = omega (arith, size, length-append (header 36 (length word)) (word ++ []), length-append word [], ap (λ (k : ℕ). length (header 36 k)) size);
+    }
+word_end input len place small (inr (next, less, return, other)) =
     let word = take len input in
     let size : length word ≡ len = length-take-le len input (omega arith) in
     let byte = get_or input (len + 1) 0 in
-    let other_byte : byte ≢ 10 = λ e. other (ap (λ (k : ℕ). get_or input k 0) next ∙ e) in
-    let place_is : place ≡ length word + 1 = omega arith in
-    at_input before input (13 ∷ byte ∷ drop (len + 2) input) len place (omega arith) (two_at input len 13 byte (omega arith) return refl)
-    (rw place_is (no_feed before word (drop (len + 2) input) byte begun (omega arith) other_byte))
+    record {
+      word = word;
+      end = 13 ∷ [];
+      byte = byte;
+      more = drop (len + 2) input;
+      is_word = omega arith;
+      all = ap (λ (k : ℕ). header 36 k ++ input) (sym size) ∙ ap (λ (t : List ℕ). header 36 (length word) ++ t) (two_at input len 13 byte (omega arith) return refl);
+      other = inr (refl, λ e. other (ap (λ (k : ℕ). get_or input k 0) next ∙ e));
+      place = omega (arith, size, length-append (header 36 (length word)) (word ++ 13 ∷ []), length-append word (13 ∷ []), ap (λ (k : ℕ). length (header 36 k)) size);
+    }
 
-pub long_line : (input : List ℕ) (at : ℕ) → begins_array input ≡ false → IsSearchEnd 10 65537 input → at ≡ 0 → LongLine input at
-long_line input at no_array searched place = record { no_array = no_array; long = searched.searched.within; unbroken = searched.searched.none; place = place }
+pub bad_word_end : (before input : List ℕ) (len place : ℕ) → IsBegun before → len ≤ 536870912 → IsFound input len (found.Missing place) → BadAt (before ++ header 36 len ++ input) NoLineEnd (length (before ++ header 36 len) + place)
+bad_word_end before input len place begun small missing = inr record {
+  before = before;
+  here = header 36 len ++ input;
+  offset = length (header 36 len) + place;
+  whole = append_assoc before (header 36 len) input;
+  due = begun;
+  wrong = word_end input len place small missing;
+  place = omega (arith, length-append before (header 36 len));
+}
+
+pub long_line : (input : List ℕ) (at : ℕ) → begins_array input ≡ false → IsSearchEnd 10 65537 input → at ≡ 0 → BadAt input LineTooLong at
+long_line input at no_array searched place = inr record {
+  before = [];
+  here = input;
+  offset = 0;
+  whole = refl;
+  due = (refl, no_array);
+  wrong = record { long = searched.searched.within; unbroken = searched.searched.none; place = refl };
+  place = omega (arith, place);
+}
 
 inline : (end : ℕ) (input : List ℕ) (words : List (List ℕ)) → IsInlineLine input end → list_any is_quote (take end input) ≡ false → words ≡ line_words (take end input) → IsInline (take end input ++ 10 ∷ []) words
 inline end input words line plain words_are = record { line = take end input; whole = refl; is_line = line.is_line; plain = plain; words_are = words_are }
@@ -192,21 +196,35 @@ pub skips_line : (passed end : ℕ) (input : List ℕ) → IsInlineLine input en
 skips_line passed end input line plain words_are =
     SkipsOnly-one passed (passed + (end + 1)) input (take end input ++ 10 ∷ []) (drop (end + 1) input) (line_parts end input line) (omega (arith, line_size end input line)) (inr (inline end input [] line plain words_are))
 
-pub bad_quote : (input : List ℕ) (end place at : ℕ) → IsInlineLine input end → IsFirstQuote (take end input) (Some place) → at ≡ place → QuotedLine input at
+-- a whole line begins no multibulk
+line_due : (end : ℕ) (input : List ℕ) → IsInlineLine input end → begins_array input ≡ false
+line_due zero input line = ap begins_array line.parts
+line_due (suc end) [] line = refl
+line_due (suc end) (byte ∷ input) line = line.is_line.no_array
+
+pub bad_quote : (input : List ℕ) (end place at : ℕ) → IsInlineLine input end → IsFirstQuote (take end input) (Some place) → at ≡ place → BadAt input Quote at
 bad_quote input end place at line found same =
     let text = take end input in
     let quote = get_or text place 0 in
     let parts : text ≡ take place text ++ quote ∷ drop (place + 1) text = one_at text place quote (omega (arith, found.0)) refl in
     record {
-      front = take place text;
-      quote = quote;
-      back = drop (place + 1) text;
-      more = drop (end + 1) input;
-      line = line.parts ∙ ap (λ (t : List ℕ). t ++ 10 ∷ drop (end + 1) input) parts;
-      is_line = subst (λ (t : List ℕ). IsLine t) parts line.is_line;
-      quoted = found.2;
-      first = found.1;
-      place = omega (arith, same, length-take-le place text (omega (arith, found.0)));
+      before = [];
+      here = input;
+      offset = place;
+      whole = refl;
+      due = (refl, line_due end input line);
+      wrong = record {
+        front = take place text;
+        quote = quote;
+        back = drop (place + 1) text;
+        more = drop (end + 1) input;
+        line = line.parts ∙ ap (λ (t : List ℕ). t ++ 10 ∷ drop (end + 1) input) parts;
+        is_line = subst (λ (t : List ℕ). IsLine t) parts line.is_line;
+        quoted = found.2;
+        first = found.1;
+        place = omega (arith, length-take-le place text (omega (arith, found.0)));
+      };
+      place = omega (arith, same);
     }
 
 line_there : (input : List ℕ) (len : ℕ) → IsFound input len found.There → input ≡ take len input ++ crlf ++ drop (len + 2) input
@@ -249,3 +267,47 @@ takes_last passed read count len done input begun small there read_is whole =
     } in
     Takes-here passed (passed + (read + (len + 2))) (word_front count done len ++ input) (multibulk words) (drop (len + 2) input) words parted
     (omega (arith, there.0, ap (λ (bytes : List ℕ). length bytes) parted, length-append (word_front count done len) input, length-append (multibulk words) (drop (len + 2) input), length-drop (len + 2) input)) (request, inl refl)
+
+-- behind the bytes of a word stands what is found there
+byte_behind : (word input : List ℕ) (len k : ℕ) → length word ≡ len → get_or (word ++ input) (len + k) 0 ≡ get_or input k 0
+byte_behind word input len k size = rw (← size) (get_or-append-add word input k 0)
+
+first_behind : (word input : List ℕ) (len : ℕ) → length word ≡ len → get_or (word ++ input) len 0 ≡ get_or input 0 0
+first_behind word input len size =
+    let here : len ≡ len + 0 = omega arith in
+    ap (λ (k : ℕ). get_or (word ++ input) k 0) here ∙ byte_behind word input len 0 size
+
+pub found_behind : (word input : List ℕ) (len place : ℕ) → length word ≡ len → IsFound input 0 (found.Missing place) → IsFound (word ++ input) len (found.Missing (len + place))
+found_behind word input len place size (inl (same, less, other)) =
+    inl (omega (arith, same), omega (arith, length-append word input), λ e. other (sym (byte_behind word input len place size) ∙ e))
+found_behind word input len place size (inr (next, less, return, other)) =
+    inr (omega (arith, next), omega (arith, length-append word input), first_behind word input len size ∙ return, λ e. other (sym (byte_behind word input len place size) ∙ e))
+
+pub open_behind : (word input : List ℕ) (len : ℕ) → length word ≡ len → IsFound input 0 found.Open → IsFound (word ++ input) len found.Open
+open_behind word input len size (inl none) = inl (omega (arith, length-append word input))
+open_behind word input len size (inr (last, return)) = inr (omega (arith, length-append word input), first_behind word input len size ∙ return)
+
+there_behind : (word input : List ℕ) (len : ℕ) → length word ≡ len → IsFound input 0 found.There → IsFound (word ++ input) len found.There
+there_behind word input len size (long, return, feed) =
+    (omega (arith, length-append word input), first_behind word input len size ∙ return, byte_behind word input len 1 size ∙ feed)
+
+gathered_parts : (word input : List ℕ) (len : ℕ) → length word ≡ len → (take len (word ++ input) ≡ word) × (drop (len + 2) (word ++ input) ≡ drop 2 input)
+gathered_parts word input len size = (take_at word input len size, rw (← size) (drop-append-add word input 2))
+
+pub begun-gathered : (count len : ℕ) (done : List (List ℕ)) (word input : List ℕ) → length word ≡ len → IsFound input 0 found.There →
+    word_front count done len ++ (word ++ input) ≡ header 42 count ++ flat_map bulk (done ++ word ∷ []) ++ drop 2 input
+begun-gathered count len done word input size there =
+    let parts = gathered_parts word input len size in
+    begun-push count len done (word ++ input) (there_behind word input len size there)
+    ∙ ap (λ (w : List ℕ). header 42 count ++ flat_map bulk (done ++ w ∷ []) ++ drop (len + 2) (word ++ input)) parts.0 ∙ ap (λ (t : List ℕ). header 42 count ++ flat_map bulk (done ++ word ∷ []) ++ t) parts.1
+
+pub takes_gathered : (passed read count len : ℕ) (done : List (List ℕ)) (word input : List ℕ) → HasMore count done → len ≤ 536870912 → length word ≡ len → IsFound input 0 found.There → read ≡ length (word_front count done len) → count ≤ length (done ++ word ∷ []) →
+    Takes (stream passed (word_front count done len ++ (word ++ input))) (stream (passed + (read + (len + 2))) (drop 2 input)) (done ++ word ∷ [])
+takes_gathered passed read count len done word input begun small size there read_is whole =
+    let parts = gathered_parts word input len size in
+    let taken = takes_last passed read count len done (word ++ input) begun small (there_behind word input len size there) read_is (rw parts.0 whole) in
+    subst (λ (t : List ℕ). Takes (stream passed (word_front count done len ++ (word ++ input))) (stream (passed + (read + (len + 2))) t) (done ++ word ∷ [])) parts.1
+    (subst (λ (w : List ℕ). Takes (stream passed (word_front count done len ++ (word ++ input))) (stream (passed + (read + (len + 2))) (drop (len + 2) (word ++ input))) (done ++ w ∷ [])) parts.0 taken)
+
+pub pushed : (new room old : List (List ℕ)) (taken word : List ℕ) → new ≡ room ++ taken ∷ [] → room ≡ old → taken ≡ word → new ≡ old ++ word ∷ []
+pushed new room old taken word e same_room same_word = rw (← same_room, ← same_word) e

@@ -1,20 +1,21 @@
 -- Each definition of what stands at the front of a stream, as it is judged.
-use Rattle.std.proofs.Common.{◌≡◌, ℕ, ◌+◌, ◌<◌, true, false, eqb, List, [], ◌∷◌, ◌++◌, length, refl, sym, ap, ◌∙◌, append_assoc, arith, inl, inr, Option}
+use Rattle.std.proofs.Common.{◌≡◌, ◌≢◌, ◌⊎◌, ℕ, ◌+◌, ◌<◌, true, false, eqb, List, [], ◌∷◌, ◌++◌, length, refl, sym, ap, ◌∙◌, append_assoc, arith, inl, inr, Option}
 use Rattle.std.specs.List.{list_any}
-use Rattle.std.specs.Fmt.{decimal, signed_decimal}
+use Rattle.std.specs.Fmt.{signed_decimal}
 use Rattle.std.proofs.lemmas.Bool.{ne_eqb, lt-ltb, le-ltb}
 use Rattle.std.proofs.lemmas.List.Folds.{list_any-append}
 use Rattle.std.proofs.lemmas.List.{length-append}
 use Rattle.core_types.specs.declared.bad_request.BadRequest.{BadRequest}
 use Rattle.core_types.specs.declared.bad_request.BadRequest.TheVariants.{MultibulkLength, BulkLength, ExpectedDollar, LineTooLong, NoLineEnd, Quote}
+use Rattle.resp_codec.specs.Marks.{crlf, header}
 use Rattle.resp_codec.specs.Inline.{IsLine, begins_array, is_quote}
-use Rattle.resp_codec.specs.Spelling.{crlf, IsInline, Spells, Skips}
-use Rattle.resp_codec.specs.Faults.{HeaderDue, IsBegun, BadCount, BadLength, BadMark, LongHeader, LongLine, LoneReturn, BadWordEnd, QuotedLine, BadAt}
+use Rattle.resp_codec.specs.Spelling.{IsInline, Spells, Skips}
+use Rattle.resp_codec.specs.Faults.{CountDue, HeaderDue, LineDue, WrongAt, IsBegun, IsNoCount, IsNoLength, BadNumber, OtherMark, Endless, LoneReturn, BadWordEnd, QuotedLine, BadAt}
 use Rattle.resp_codec.specs.Stream.{IsUnfinished}
 use Rattle.resp_codec.proofs.Cuts.{before_first, before_first-at, from_first-at, before_first-long}
 use Rattle.resp_codec.proofs.Counts.{natural-other, count_of-none, count_of-other, IsHeaderText-signed}
-use Rattle.resp_codec.proofs.Judging.{Head, head, piece, piece_head, piece_body, judge, judge_head, judge_array, judge_line, judge_cut, head-lone, head-endless, piece-header, piece-word, judge-header, judge-begun, judge-open, judge-bad, judge_at_array, judge_at_line}
-use Rattle.resp_codec.proofs.Judging.Head.{Open, Endless, Lone}
+use Rattle.resp_codec.proofs.Judging.{Head, head, piece, piece_head, piece_body, piece_end, judge, judge_head, judge_array, judge_line, judge_cut, head-lone, head-endless, piece-header, piece-word, judge-header, judge-begun, judge-open, judge-bad, judge_at_array, judge_at_line}
+use Rattle.resp_codec.proofs.Judging.Head.{Open, Lone, Endless as NoEnd}
 use Rattle.resp_codec.proofs.Judging.Piece.{BadWord}
 use Rattle.resp_codec.proofs.Judging.Judged.{Took, Passed, Short, Wrong}
 
@@ -65,75 +66,67 @@ pub due_open : (before rest : List ℕ) → HeaderDue before rest → head rest 
 due_open before rest (inl (none, array)) is = rw none (judge_at_array rest array ∙ ap judge_head is)
 due_open before rest (inr (begun, (more, mark))) is = judge-open before rest begun (rw mark (ap piece_head (rw mark at is)))
 
-count_verdict : (bytes : List ℕ) (at : ℕ) → BadCount bytes at → judge bytes ≡ Wrong MultibulkLength at
-count_verdict bytes at bad =
-    ap judge bad.header ∙ judge-header bad.text bad.more bad.is_text
-    ∙ ap (λ (o : Option ℕ). judge_array o (length (42 ∷ bad.text) + 2) bad.more) (count_of-other bad.text bad.no_count) ∙ ap (λ (k : ℕ). Wrong MultibulkLength k) (sym bad.place)
+-- what is wrong behind these bytes makes a bad place there
+count_verdict : (before here : List ℕ) (offset : ℕ) → CountDue before here → BadNumber 42 IsNoCount here offset → judge (before ++ here) ≡ Wrong MultibulkLength (length before + offset)
+count_verdict before here offset due bad =
+    rw due.0 (ap judge bad.line ∙ judge-header bad.text bad.more bad.is_text
+    ∙ ap (λ (o : Option ℕ). judge_array o (length (42 ∷ bad.text) + 2) bad.more) (count_of-other bad.text bad.none) ∙ ap (λ (k : ℕ). Wrong MultibulkLength k) (omega (arith, bad.place)))
 
--- the place of what is wrong with a word
-word_verdict : (bytes before rest : List ℕ) (kind : BadRequest) (at place : ℕ) → IsBegun before → bytes ≡ before ++ rest → piece rest ≡ BadWord kind at → place ≡ length before + at → judge bytes ≡ Wrong kind place
-word_verdict bytes before rest kind at place begun e bad place_is =
-    ap judge e ∙ judge-bad before rest kind at begun bad ∙ ap (λ (k : ℕ). Wrong kind k) (sym place_is)
+length_verdict : (before here : List ℕ) (offset : ℕ) → IsBegun before → BadNumber 36 IsNoLength here offset → judge (before ++ here) ≡ Wrong BulkLength (length before + offset)
+length_verdict before here offset begun bad =
+    judge-bad before here BulkLength offset begun
+    (ap piece bad.line ∙ piece-header bad.text bad.more bad.is_text ∙ ap (λ (o : Option ℕ). piece_body o (length (36 ∷ bad.text) + 2) bad.more) (natural-other 536870912 bad.text bad.none)
+    ∙ ap (λ (k : ℕ). BadWord BulkLength k) (sym bad.place))
 
-length_verdict : (bytes : List ℕ) (at : ℕ) → BadLength bytes at → judge bytes ≡ Wrong BulkLength at
-length_verdict bytes at bad =
-    word_verdict bytes bad.before (36 ∷ bad.text ++ crlf ++ bad.more) BulkLength 0 at bad.begun (bad.header ∙ ap (λ (t : List ℕ). t ++ bad.more) (append_assoc bad.before (36 ∷ bad.text) crlf) ∙ append_assoc bad.before (36 ∷ bad.text ++ crlf) bad.more)
-    (piece-header bad.text bad.more bad.is_text ∙ ap (λ (o : Option ℕ). piece_body o (length (36 ∷ bad.text) + 2) bad.more) (natural-other 536870912 bad.text bad.no_length))
-    (omega (arith, bad.place))
+mark_verdict : (mark : ℕ) (before here : List ℕ) (offset : ℕ) → IsBegun before → OtherMark mark here offset → judge (before ++ here) ≡ Wrong (ExpectedDollar mark) (length before + offset)
+mark_verdict mark before here offset begun bad =
+    judge-bad before here (ExpectedDollar mark) offset begun (rw (bad.begins, ne_eqb mark 36 bad.other) (ap (λ (k : ℕ). BadWord (ExpectedDollar mark) k) (sym bad.place)))
 
-mark_verdict : (bytes : List ℕ) (mark at : ℕ) → BadMark bytes mark at → judge bytes ≡ Wrong (ExpectedDollar mark) at
-mark_verdict bytes mark at bad =
-    word_verdict bytes bad.before (mark ∷ bad.more) (ExpectedDollar mark) 0 at bad.begun bad.header (rw (ne_eqb mark 36 bad.other) refl) (omega (arith, bad.place))
+endless_header_verdict : (before here : List ℕ) (offset : ℕ) → HeaderDue before here → Endless 13 here offset → judge (before ++ here) ≡ Wrong LineTooLong (length before + offset)
+endless_header_verdict before here offset due bad =
+    due_bad before here NoEnd LineTooLong offset due (head-endless here bad.long bad.unbroken) (ap (λ (k : ℕ). Wrong LineTooLong k) (sym bad.place)) (ap (λ (k : ℕ). BadWord LineTooLong k) (sym bad.place))
 
-long_header_verdict : (bytes : List ℕ) (at : ℕ) → LongHeader bytes at → judge bytes ≡ Wrong LineTooLong at
-long_header_verdict bytes at bad =
-    ap judge bad.all ∙ due_bad bad.before bad.rest Endless LineTooLong 0 bad.due (head-endless bad.rest bad.long bad.unbroken) refl refl ∙ ap (λ (k : ℕ). Wrong LineTooLong k) (omega (arith, bad.place))
+endless_line_verdict : (before here : List ℕ) (offset : ℕ) → LineDue before here → Endless 10 here offset → judge (before ++ here) ≡ Wrong LineTooLong (length before + offset)
+endless_line_verdict before here offset due bad =
+    rw due.0 (judge_at_line here (omega (arith, bad.long)) due.1
+    ∙ rw (le-ltb (length (before_first (λ byte. eqb byte 10) here)) 65537 (before_first-long (λ byte. eqb byte 10) 65537 here bad.long bad.unbroken)) (ap (λ (k : ℕ). Wrong LineTooLong k) (omega (arith, bad.place))))
 
-long_line_verdict : (bytes : List ℕ) (at : ℕ) → LongLine bytes at → judge bytes ≡ Wrong LineTooLong at
-long_line_verdict bytes at bad =
-    judge_at_line bytes (omega (arith, bad.long)) bad.no_array ∙ rw (le-ltb (length (before_first (λ byte. eqb byte 10) bytes)) 65537 (before_first-long (λ byte. eqb byte 10) 65537 bytes bad.long bad.unbroken), bad.place) refl
+lone_verdict : (before here : List ℕ) (offset : ℕ) → HeaderDue before here → LoneReturn here offset → judge (before ++ here) ≡ Wrong NoLineEnd (length before + offset)
+lone_verdict before here offset due bad =
+    due_bad before here (Lone (length bad.text)) NoLineEnd offset due (ap head bad.all ∙ head-lone bad.text bad.byte bad.more bad.is_text bad.other) (ap (λ (k : ℕ). Wrong NoLineEnd k) (sym bad.place)) (ap (λ (k : ℕ). BadWord NoLineEnd k) (sym bad.place))
 
-lone_verdict : (bytes : List ℕ) (at : ℕ) → LoneReturn bytes at → judge bytes ≡ Wrong NoLineEnd at
-lone_verdict bytes at bad =
-    ap judge bad.all ∙ due_bad bad.before (bad.text ++ 13 ∷ bad.byte ∷ bad.more) (Lone (length bad.text)) NoLineEnd (length bad.text + 1) bad.due (head-lone bad.text bad.byte bad.more bad.is_text bad.other) refl refl
-    ∙ ap (λ (k : ℕ). Wrong NoLineEnd k) (omega (arith, bad.place))
+-- the end of a word, behind its bytes
+end_piece : (word end more : List ℕ) (byte size : ℕ) → ((end ≡ []) × (byte ≢ 13)) ⊎ ((end ≡ 13 ∷ []) × (byte ≢ 10)) → piece_end word (end ++ byte ∷ more) size ≡ BadWord NoLineEnd (size + length end)
+end_piece word end more byte size (inl (none, other)) = rw (none, ne_eqb byte 13 other) (ap (λ (k : ℕ). BadWord NoLineEnd k) (omega arith))
+end_piece word end more byte size (inr (return, other)) = rw (return, ne_eqb byte 10 other) refl
 
--- what stands before the end of a word, and how long it is
-word_parts : (before word rest : List ℕ) → before ++ 36 ∷ decimal (length word) ++ crlf ++ word ++ rest ≡ before ++ (36 ∷ decimal (length word) ++ crlf ++ (word ++ rest))
-word_parts before word rest =
-    append_assoc (before ++ 36 ∷ decimal (length word) ++ crlf) word rest ∙ ap (λ (t : List ℕ). t ++ (word ++ rest)) (append_assoc before (36 ∷ decimal (length word)) crlf)
-    ∙ append_assoc before (36 ∷ decimal (length word) ++ crlf) (word ++ rest)
+word_end_verdict : (before here : List ℕ) (offset : ℕ) → IsBegun before → BadWordEnd here offset → judge (before ++ here) ≡ Wrong NoLineEnd (length before + offset)
+word_end_verdict before here offset begun bad =
+    let front = header 36 (length bad.word) in
+    let place : length (front ++ bad.word) + length bad.end ≡ offset = omega (arith, bad.place, length-append front bad.word, length-append front (bad.word ++ bad.end), length-append bad.word bad.end) in
+    judge-bad before here NoLineEnd offset begun
+    (ap piece bad.all ∙ piece-word bad.word (bad.end ++ bad.byte ∷ bad.more) bad.is_word ∙ end_piece bad.word bad.end bad.more bad.byte (length (front ++ bad.word)) bad.other ∙ ap (λ (k : ℕ). BadWord NoLineEnd k) place)
 
-word_place : (before word : List ℕ) → length (before ++ 36 ∷ decimal (length word) ++ crlf ++ word) ≡ length before + length (36 ∷ decimal (length word) ++ crlf ++ word)
-word_place before word =
-    ap (λ (t : List ℕ). length (t ++ word)) (append_assoc before (36 ∷ decimal (length word)) crlf) ∙ ap (λ (t : List ℕ). length t) (append_assoc before (36 ∷ decimal (length word) ++ crlf) word)
-    ∙ length-append before (36 ∷ decimal (length word) ++ crlf ++ word)
-
-word_end_verdict : (bytes : List ℕ) (at : ℕ) → BadWordEnd bytes at → judge bytes ≡ Wrong NoLineEnd at
-word_end_verdict bytes at bad =
-    let before = bad.before in
-    let word = bad.word in
-    let size = length (36 ∷ decimal (length word) ++ crlf ++ word) in
-    elim bad.ends [
-      | inl (e, (other, place)) ↦ word_verdict bytes before (36 ∷ decimal (length word) ++ crlf ++ (word ++ bad.byte ∷ bad.more)) NoLineEnd size at bad.begun (e ∙ word_parts before word (bad.byte ∷ bad.more)) (piece-word word (bad.byte ∷ bad.more) bad.is_word ∙ rw (ne_eqb bad.byte 13 other) refl) (place ∙ word_place before word)
-      | inr (e, (other, place)) ↦ word_verdict bytes before (36 ∷ decimal (length word) ++ crlf ++ (word ++ 13 ∷ bad.byte ∷ bad.more)) NoLineEnd (size + 1) at bad.begun (e ∙ word_parts before word (13 ∷ bad.byte ∷ bad.more)) (piece-word word (13 ∷ bad.byte ∷ bad.more) bad.is_word ∙ rw (ne_eqb bad.byte 10 other) refl) (omega (arith, place, word_place before word))
-    ]
-
-quote_verdict : (bytes : List ℕ) (at : ℕ) → QuotedLine bytes at → judge bytes ≡ Wrong Quote at
-quote_verdict bytes at bad =
+quote_verdict : (before here : List ℕ) (offset : ℕ) → LineDue before here → QuotedLine here offset → judge (before ++ here) ≡ Wrong Quote (length before + offset)
+quote_verdict before here offset due bad =
     let line = bad.front ++ bad.quote ∷ bad.back in
     let quoted : list_any is_quote line ≡ true = list_any-append is_quote bad.front (bad.quote ∷ bad.back) ∙ rw (bad.first, bad.quoted) refl in
-    ap judge bad.line ∙ line_whole line bad.more bad.is_line ∙ rw (quoted, before_first-at is_quote bad.front bad.quote bad.back bad.first bad.quoted, bad.place) refl
+    rw due.0 (ap judge bad.line ∙ line_whole line bad.more bad.is_line
+    ∙ rw (quoted, before_first-at is_quote bad.front bad.quote bad.back bad.first bad.quoted) (ap (λ (k : ℕ). Wrong Quote k) (omega (arith, bad.place))))
+
+-- the same in the bytes, and counted from their front
+in_whole : {Due : List ℕ → List ℕ → Type 0} {Here : List ℕ → ℕ → Type 0} (bytes : List ℕ) (kind : BadRequest) (at : ℕ) (w : WrongAt Due Here bytes at) → judge (w.before ++ w.here) ≡ Wrong kind (length w.before + w.offset) → judge bytes ≡ Wrong kind at
+in_whole bytes kind at w is = ap judge w.whole ∙ is ∙ ap (λ (k : ℕ). Wrong kind k) (sym w.place)
 
 pub bad_verdict : (bytes : List ℕ) (kind : BadRequest) (at : ℕ) → BadAt bytes kind at → judge bytes ≡ Wrong kind at
-bad_verdict bytes MultibulkLength at bad = count_verdict bytes at bad
-bad_verdict bytes BulkLength at bad = length_verdict bytes at bad
-bad_verdict bytes (ExpectedDollar mark) at bad = mark_verdict bytes mark at bad
-bad_verdict bytes LineTooLong at (inl bad) = long_header_verdict bytes at bad
-bad_verdict bytes LineTooLong at (inr bad) = long_line_verdict bytes at bad
-bad_verdict bytes NoLineEnd at (inl bad) = lone_verdict bytes at bad
-bad_verdict bytes NoLineEnd at (inr bad) = word_end_verdict bytes at bad
-bad_verdict bytes Quote at bad = quote_verdict bytes at bad
+bad_verdict bytes MultibulkLength at w = in_whole bytes MultibulkLength at w (count_verdict w.before w.here w.offset w.due w.wrong)
+bad_verdict bytes BulkLength at w = in_whole bytes BulkLength at w (length_verdict w.before w.here w.offset w.due w.wrong)
+bad_verdict bytes (ExpectedDollar mark) at w = in_whole bytes (ExpectedDollar mark) at w (mark_verdict mark w.before w.here w.offset w.due w.wrong)
+bad_verdict bytes LineTooLong at (inl w) = in_whole bytes LineTooLong at w (endless_header_verdict w.before w.here w.offset w.due w.wrong)
+bad_verdict bytes LineTooLong at (inr w) = in_whole bytes LineTooLong at w (endless_line_verdict w.before w.here w.offset w.due w.wrong)
+bad_verdict bytes NoLineEnd at (inl w) = in_whole bytes NoLineEnd at w (lone_verdict w.before w.here w.offset w.due w.wrong)
+bad_verdict bytes NoLineEnd at (inr w) = in_whole bytes NoLineEnd at w (word_end_verdict w.before w.here w.offset w.due w.wrong)
+bad_verdict bytes Quote at w = in_whole bytes Quote at w (quote_verdict w.before w.here w.offset w.due w.wrong)
 
 pub IsUnfinished-from_short : (bytes : List ℕ) → judge bytes ≡ Short → IsUnfinished bytes
 IsUnfinished-from_short bytes short = record {

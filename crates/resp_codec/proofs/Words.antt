@@ -2,12 +2,12 @@
 use Rattle.std.proofs.Common.{◌≡◌, ℕ, ◌+◌, ◌<◌, ◌≤◌, List, ◌++◌, length, take, drop, sym, ap, subst, ◌∙◌, append_assoc, arith, inl, inr}
 use Rattle.std.proofs.lemmas.List.{length-append, length-take, length-drop, drop-drop}
 use Rattle.core_types.specs.declared.bad_request.BadRequest.TheVariants.{NoLineEnd}
+use Rattle.resp_codec.specs.Marks.{header}
 use Rattle.resp_codec.specs.Spelling.{bulk}
-use Rattle.resp_codec.specs.Faults.{BadWordEnd}
+use Rattle.resp_codec.specs.Faults.{BadAt}
 use Rattle.resp_codec.specs.Stream.{IsUnfinished}
-use Rattle.resp_codec.specs.Header.{header}
-use Rattle.resp_codec.specs.Line.{IsFound}
-use Rattle.resp_codec.specs.Word.{JudgesWord}
+use Rattle.resp_codec.specs.inner.Line.{IsFound}
+use Rattle.resp_codec.specs.inner.Word.{JudgesWord}
 use Rattle.resp_codec.specs.declared.line.LineEnd.TheVariants as found
 use Rattle.resp_codec.specs.declared.word.Word.TheVariants as answer
 use Rattle.resp_codec.proofs.ReaderSteps.{unfinished_word, bad_word_end, word_whole}
@@ -34,8 +34,8 @@ JudgesWord-missing bytes start len place within small parts missing = (
   omega (arith, found_within (drop start bytes) len place missing, length-drop start bytes),
   λ before begun.
       let there : length (before ++ header 36 len) + place ≡ length before + (start + place) = omega (arith, length-append before (header 36 len), header_size 36 bytes start len within parts) in
-      inr (subst (λ (t : List ℕ). BadWordEnd t (length before + (start + place))) (behind_header before bytes start len parts)
-      (subst (λ (k : ℕ). BadWordEnd (before ++ header 36 len ++ drop start bytes) k) there (bad_word_end before (drop start bytes) len place begun small missing))),
+      subst (λ (t : List ℕ). BadAt t NoLineEnd (length before + (start + place))) (behind_header before bytes start len parts)
+      (subst (λ (k : ℕ). BadAt (before ++ header 36 len ++ drop start bytes) NoLineEnd k) there (bad_word_end before (drop start bytes) len place begun small missing)),
 )
 
 pub JudgesWord-whole : (bytes word : List ℕ) (start len : ℕ) → start ≤ length bytes → len ≤ 536870912 → bytes ≡ header 36 len ++ drop start bytes → IsFound (drop start bytes) len found.There → word ≡ take len (drop start bytes) →

@@ -1,32 +1,52 @@
--- What is no request, however it goes on: each kind of bad place, counted from the request's first byte.
+-- What is no request, however it goes on: each kind of bad place.
 use Rattle.std.specs.Prelude.{ℕ, ℤ, pos, ◌≡◌, ◌≢◌, ◌⊎◌, ◌+◌, ◌<◌, ◌≤◌, ◌≤ℤ◌, List, [], ◌∷◌, ◌++◌, length, take, true, false, ◌==◌, FitsSigned}
 use Rattle.std.specs.Int.{w64}
 use Rattle.std.specs.List.{flat_map, AllByRecursion, list_any}
 use Rattle.std.specs.Fmt.{decimal, signed_decimal}
 use Rattle.core_types.specs.declared.bad_request.BadRequest.{BadRequest}
 use Rattle.core_types.specs.declared.bad_request.BadRequest.TheVariants.{MultibulkLength, BulkLength, ExpectedDollar, LineTooLong, NoLineEnd, Quote}
+use Rattle.resp_codec.specs.Marks.{cr, lf, star, dollar, marked, header}
 use Rattle.resp_codec.specs.Inline.{IsLine, is_quote, begins_array}
-use Rattle.resp_codec.specs.Spelling.{crlf, bulk, IsWord}
+use Rattle.resp_codec.specs.Spelling.{bulk, IsWord}
 
--- An array was begun: its header, and fewer words than that counts. The next word's header is due after it.
+-- A multibulk was begun: its header, and fewer words than that counts. The next word is due behind it.
 pub record IsBegun (before : List ℕ) : Type 0 where
   pub count : ℕ
   pub words : List (List ℕ)
   pub few : count ≤ 1048576
   pub more : length words < count
   pub each : AllByRecursion IsWord words
-  pub bytes : before ≡ 42 ∷ decimal count ++ crlf ++ flat_map bulk words
+  pub bytes : before ≡ header star count ++ flat_map bulk words
 
--- a header is due after these bytes, and begins here: an array's at first, and then a word's
+-- What is due behind some bytes, and begins here: a multibulk's header, a word, the header of either, or a line.
+abbrev pub CountDue : List ℕ → List ℕ → Type 0
+CountDue before here = (before ≡ []) × (begins_array here ≡ true)
+
+abbrev pub WordDue : List ℕ → List ℕ → Type 0
+WordDue before here = IsBegun before
+
 abbrev pub HeaderDue : List ℕ → List ℕ → Type 0
-HeaderDue before header = ((before ≡ []) × (begins_array header ≡ true)) ⊎ (IsBegun before × ((rest : List ℕ) × (header ≡ 36 ∷ rest)))
+HeaderDue before here = CountDue before here ⊎ (IsBegun before × ((rest : List ℕ) × (here ≡ dollar ∷ rest)))
+
+abbrev pub LineDue : List ℕ → List ℕ → Type 0
+LineDue before here = (before ≡ []) × (begins_array here ≡ false)
+
+-- Where it is due, something is wrong: at this offset, counted from there.
+pub record WrongAt (Due : List ℕ → List ℕ → Type 0) (Wrong : List ℕ → ℕ → Type 0) (bytes : List ℕ) (at : ℕ) : Type 0 where
+  pub before : List ℕ
+  pub here : List ℕ
+  pub offset : ℕ
+  pub whole : bytes ≡ before ++ here
+  pub due : Due before here
+  pub wrong : Wrong here offset
+  pub place : at ≡ length before + offset
 
 -- what stands before a header's CR: at most 65,536 bytes and no CR
 pub record IsHeaderText (text : List ℕ) : Type 0 where
   pub short : length text ≤ 65536
-  pub unbroken : list_any (λ byte. byte == 13) text ≡ false
+  pub unbroken : list_any (λ byte. byte == cr) text ≡ false
 
--- no number of words that an array may have
+-- no number of words that a multibulk may have
 abbrev pub IsNoCount : List ℕ → Type 0
 IsNoCount text = (n : ℤ) → FitsSigned w64 n → n ≤ℤ pos 1048576 → text ≢ signed_decimal n
 
@@ -34,92 +54,66 @@ IsNoCount text = (n : ℤ) → FitsSigned w64 n → n ≤ℤ pos 1048576 → tex
 abbrev pub IsNoLength : List ℕ → Type 0
 IsNoLength text = (n : ℕ) → n ≤ 536870912 → text ≢ decimal n
 
--- the count of an array is none
-pub record BadCount (bytes : List ℕ) (at : ℕ) : Type 0 where
+-- a header is whole, and what it has is no such number
+pub record BadNumber (mark : ℕ) (IsNone : List ℕ → Type 0) (here : List ℕ) (offset : ℕ) : Type 0 where
   pub text : List ℕ
   pub more : List ℕ
-  pub header : bytes ≡ 42 ∷ text ++ crlf ++ more
-  pub is_text : IsHeaderText (42 ∷ text)
-  pub no_count : IsNoCount text
-  pub place : at ≡ 0
+  pub line : here ≡ marked mark text ++ more
+  pub is_text : IsHeaderText (mark ∷ text)
+  pub none : IsNone text
+  pub place : offset ≡ 0
 
--- the length of a word is none
-pub record BadLength (bytes : List ℕ) (at : ℕ) : Type 0 where
-  pub before : List ℕ
-  pub text : List ℕ
+-- a word begins with this byte, and not with `$`
+pub record OtherMark (mark : ℕ) (here : List ℕ) (offset : ℕ) : Type 0 where
   pub more : List ℕ
-  pub begun : IsBegun before
-  pub header : bytes ≡ before ++ 36 ∷ text ++ crlf ++ more
-  pub is_text : IsHeaderText (36 ∷ text)
-  pub no_length : IsNoLength text
-  pub place : at ≡ length before
+  pub begins : here ≡ mark ∷ more
+  pub other : mark ≢ dollar
+  pub place : offset ≡ 0
 
--- a word does not begin with `$`
-pub record BadMark (bytes : List ℕ) (mark : ℕ) (at : ℕ) : Type 0 where
-  pub before : List ℕ
-  pub more : List ℕ
-  pub begun : IsBegun before
-  pub header : bytes ≡ before ++ mark ∷ more
-  pub other : mark ≢ 36
-  pub place : at ≡ length before
-
--- the first 65,537 bytes of a header hold no CR
-pub record LongHeader (bytes : List ℕ) (at : ℕ) : Type 0 where
-  pub before : List ℕ
-  pub rest : List ℕ
-  pub due : HeaderDue before rest
-  pub all : bytes ≡ before ++ rest
-  pub long : 65537 ≤ length rest
-  pub unbroken : list_any (λ byte. byte == 13) (take 65537 rest) ≡ false
-  pub place : at ≡ length before
-
--- the first 65,537 bytes of a line hold no LF
-pub record LongLine (bytes : List ℕ) (at : ℕ) : Type 0 where
-  pub no_array : begins_array bytes ≡ false
-  pub long : 65537 ≤ length bytes
-  pub unbroken : list_any (λ byte. byte == 10) (take 65537 bytes) ≡ false
-  pub place : at ≡ 0
+-- the first 65,537 bytes hold no such byte
+pub record Endless (end : ℕ) (here : List ℕ) (offset : ℕ) : Type 0 where
+  pub long : 65537 ≤ length here
+  pub unbroken : list_any (λ byte. byte == end) (take 65537 here) ≡ false
+  pub place : offset ≡ 0
 
 -- the byte after a header's CR is no LF
-pub record LoneReturn (bytes : List ℕ) (at : ℕ) : Type 0 where
-  pub before : List ℕ
+pub record LoneReturn (here : List ℕ) (offset : ℕ) : Type 0 where
   pub text : List ℕ
   pub byte : ℕ
   pub more : List ℕ
-  pub due : HeaderDue before (text ++ 13 ∷ byte ∷ more)
-  pub all : bytes ≡ before ++ (text ++ 13 ∷ byte ∷ more)
+  pub all : here ≡ text ++ cr ∷ byte ∷ more
   pub is_text : IsHeaderText text
-  pub other : byte ≢ 10
-  pub place : at ≡ length before + length text + 1
+  pub other : byte ≢ lf
+  pub place : offset ≡ length text + 1
 
 -- a word's bytes are not followed by CR, or not by LF after that
-pub record BadWordEnd (bytes : List ℕ) (at : ℕ) : Type 0 where
-  pub before : List ℕ
+pub record BadWordEnd (here : List ℕ) (offset : ℕ) : Type 0 where
   pub word : List ℕ
+  pub end : List ℕ
   pub byte : ℕ
   pub more : List ℕ
-  pub begun : IsBegun before
   pub is_word : IsWord word
-  pub ends : ((bytes ≡ before ++ 36 ∷ decimal (length word) ++ crlf ++ word ++ byte ∷ more) × ((byte ≢ 13) × (at ≡ length (before ++ 36 ∷ decimal (length word) ++ crlf ++ word))))
-      ⊎ ((bytes ≡ before ++ 36 ∷ decimal (length word) ++ crlf ++ word ++ 13 ∷ byte ∷ more) × ((byte ≢ 10) × (at ≡ length (before ++ 36 ∷ decimal (length word) ++ crlf ++ word) + 1)))
+  pub all : here ≡ header dollar (length word) ++ (word ++ (end ++ byte ∷ more))
+  pub other : ((end ≡ []) × (byte ≢ cr)) ⊎ ((end ≡ cr ∷ []) × (byte ≢ lf))
+  pub place : offset ≡ length (header dollar (length word) ++ (word ++ end))
 
 -- a whole line holds a quote, and this is the first
-pub record QuotedLine (bytes : List ℕ) (at : ℕ) : Type 0 where
+pub record QuotedLine (here : List ℕ) (offset : ℕ) : Type 0 where
   pub front : List ℕ
   pub quote : ℕ
   pub back : List ℕ
   pub more : List ℕ
-  pub line : bytes ≡ (front ++ quote ∷ back) ++ 10 ∷ more
+  pub line : here ≡ (front ++ quote ∷ back) ++ lf ∷ more
   pub is_line : IsLine (front ++ quote ∷ back)
   pub quoted : is_quote quote ≡ true
   pub first : list_any is_quote front ≡ false
-  pub place : at ≡ length front
+  pub place : offset ≡ length front
 
 -- The first bad place of what begins these bytes: its kind, and where it stands.
 abbrev pub BadAt : List ℕ → BadRequest → ℕ → Type 0
-BadAt bytes MultibulkLength at = BadCount bytes at
-BadAt bytes BulkLength at = BadLength bytes at
-BadAt bytes (ExpectedDollar mark) at = BadMark bytes mark at
-BadAt bytes LineTooLong at = LongHeader bytes at ⊎ LongLine bytes at
-BadAt bytes NoLineEnd at = LoneReturn bytes at ⊎ BadWordEnd bytes at
-BadAt bytes Quote at = QuotedLine bytes at
+BadAt bytes MultibulkLength at = WrongAt CountDue (BadNumber star IsNoCount) bytes at
+BadAt bytes BulkLength at = WrongAt WordDue (BadNumber dollar IsNoLength) bytes at
+BadAt bytes (ExpectedDollar mark) at = WrongAt WordDue (OtherMark mark) bytes at
+BadAt bytes LineTooLong at = WrongAt HeaderDue (Endless cr) bytes at ⊎ WrongAt LineDue (Endless lf) bytes at
+BadAt bytes NoLineEnd at = WrongAt HeaderDue LoneReturn bytes at ⊎ WrongAt WordDue BadWordEnd bytes at
+BadAt bytes Quote at = WrongAt LineDue QuotedLine bytes at

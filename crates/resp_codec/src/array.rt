@@ -1,7 +1,8 @@
 //! Arrays out of a byte list that is all there, as a log is.
 
 ghost use Rattle.std.specs.Prelude.{◌≡◌, ◌<◌, ◌≤◌, ◌++◌, ℕ, List, length, drop, slice_get, Some, IfOk};
-ghost use Rattle.resp_codec.specs.Header.{header, IsHeaderLine};
+ghost use Rattle.resp_codec.specs.Marks.{star, header};
+ghost use Rattle.resp_codec.specs.inner.Header.{IsHeaderLine};
 ghost use Rattle.resp_codec.specs.Array.{IsFront};
 ghost use Rattle.resp_codec.specs.declared.array.Array.{Array};
 
@@ -11,9 +12,6 @@ use crate::number::read_count;
 use crate::word::{Word, read_word};
 use core_types::{Args, BadRequest, NoMemory, Sequence};
 use std::alloc::Global;
-
-#[cfg(test)]
-mod tests;
 
 /// What stands at the front of a byte list, where arrays alone may stand.
 #[derive(Debug, Drop)]
@@ -47,7 +45,7 @@ pub fn read_array(alloc: Global, bytes: &[u8]) -> Result<Array, NoMemory>
 
 // Reads the array whose header has so many bytes before its CR LF.
 fn read_counted(alloc: Global, bytes: &[u8], end: usize) -> Result<Array, NoMemory>
-    requires mark { slice_get bytes.now 0 ≡ Some 42 }
+    requires mark { slice_get bytes.now 0 ≡ Some star }
     requires line { IsHeaderLine bytes.now end }
     ensures { IfOk result (λ array. IsFront bytes.now array) }
 {
@@ -62,8 +60,8 @@ fn read_counted(alloc: Global, bytes: &[u8], end: usize) -> Result<Array, NoMemo
 fn read_words(alloc: Global, bytes: &[u8], start: usize, count: usize) -> Result<Array, NoMemory>
     requires some { 0 < count }
     requires few { count ≤ 1048576 }
-    requires start { start ≡ length (header 42 count) }
-    requires parts { bytes.now ≡ header 42 count ++ drop start bytes.now }
+    requires start { start ≡ length (header star count) }
+    requires parts { bytes.now ≡ header star count ++ drop start bytes.now }
     ensures { IfOk result (λ array. IsFront bytes.now array) }
 {
     let mut words = Sequence::new(alloc);

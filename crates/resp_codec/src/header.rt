@@ -1,7 +1,8 @@
 //! Headers: a mark, a number, and CR LF.
 
-ghost use Rattle.resp_codec.specs.Line.{IsSearchEnd};
-ghost use Rattle.resp_codec.specs.Header.{Judges};
+ghost use Rattle.resp_codec.specs.Marks.{cr};
+ghost use Rattle.resp_codec.specs.inner.Line.{IsSearchEnd};
+ghost use Rattle.resp_codec.specs.inner.Header.{Judges};
 
 use crate::line::{FARTHEST, LineEnd, line_end};
 use core_types::BadRequest;
@@ -19,7 +20,7 @@ pub(crate) enum Header {
 
 /// What stands at the front of the bytes, where their first CR was looked for and the search ended.
 pub(crate) fn judge(bytes: &[u8], end: usize) -> Header
-    requires { IsSearchEnd 13 end bytes.now }
+    requires { IsSearchEnd cr end bytes.now }
     ensures { Judges bytes.now result }
 {
     if end == FARTHEST {

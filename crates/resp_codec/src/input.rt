@@ -23,7 +23,7 @@ pub(crate) struct Input {
 
 impl Model for Input {
     ghost use Rattle.std.specs.Prelude.{List, ℕ};
-    ghost use Rattle.resp_codec.specs.Line.{IsSearched};
+    ghost use Rattle.resp_codec.specs.inner.Line.{IsSearched};
 
     ghost Value = { List ℕ };
 
@@ -33,8 +33,8 @@ impl Model for Input {
 }
 
 impl Input {
-    ghost use Rattle.resp_codec.specs.Header.{Judges};
-    ghost use Rattle.resp_codec.specs.Line.{IsFound, IsSearchEnd};
+    ghost use Rattle.resp_codec.specs.inner.Header.{Judges};
+    ghost use Rattle.resp_codec.specs.inner.Line.{IsFound, IsSearchEnd};
 
     /// No bytes. Takes no memory.
     pub(crate) fn new(alloc: Global) -> Input

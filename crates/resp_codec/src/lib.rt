@@ -2,28 +2,35 @@
 //!
 //! A `Reader` is seen as the number of bytes it has passed and the bytes fed beyond them. `next` gives the
 //! requests of the joined bytes, as arrays or on one line, and no others, in whatever pieces they came, or
-//! the kind and the place of the first byte that makes them no requests; `write_reply` appends exactly the
-//! text of a reply, and `write_request` a spelling that the reader reads back, whatever follows it.
-//! `read_array` says what stands at the front of bytes that are all there, where arrays alone may stand.
+//! the kind and the place of the first byte that makes them no requests: the one whole reading of the bytes,
+//! by the laws of `laws.rt`. `write_reply` appends exactly the text of a reply, and `write_request` a spelling
+//! that is read back, whatever follows it. `read_array` says what stands at the front of bytes that are all
+//! there, where arrays alone may stand. Stands on `core_types`, `byte_text` for decimals, and `bytes`.
 //!
-//! Reading is linear in the bytes fed, whatever the pieces: the reader keeps its place and the words it has
-//! finished. Writing is linear, and a decimal is written without memory of its own.
+//! Reading is linear in the bytes fed, whatever the pieces: the reader keeps its place, the words it has
+//! finished, and of a word under way the bytes that came, each held once; a word's block is never larger
+//! than the word. Writing is linear: a decimal takes no memory of its own, and a large bulk lets the buffer
+//! grow by its size and not to the double.
 #![tactic(auto)]
 
 mod array;
-mod decimal;
 mod header;
 mod inline;
 mod input;
+mod laws;
 mod line;
 mod number;
+mod partial;
 mod protocol_error;
 mod reader;
 mod reading;
+#[cfg(test)]
+mod tests;
 mod word;
 mod writer;
 
 pub use array::{Array, one_front, read_array};
+pub use laws::{any_pieces, bad_for_good, one_reading, one_serving, one_spelling, reading_goes_on};
 pub use protocol_error::bad_reply;
-pub use reader::{Got, Reader, bad_for_good, one_reading};
+pub use reader::{Got, Reader};
 pub use writer::{write_reply, write_request};

@@ -1,6 +1,6 @@
 //! Where lines end: at CR LF, or at LF alone.
 
-ghost use Rattle.resp_codec.specs.Line.{IsSearched, IsSearchEnd, IsFound};
+ghost use Rattle.resp_codec.specs.inner.Line.{IsSearched, IsSearchEnd, IsFound};
 
 pub(crate) const CR: u8 = b'\r';
 

@@ -1,18 +1,13 @@
 //! Requests out of a stream that comes in pieces.
 
-ghost use Rattle.std.specs.Prelude.{◌≡◌, ◌≢◌, ◌<◌, ◌+◌, ◌^◌, ◌++◌, ℕ, List, [], length, Ok, OnOk, OnErr};
-ghost use Rattle.resp_codec.specs.Spelling.{Spells, Skips};
-ghost use Rattle.resp_codec.specs.Faults.{BadAt};
-ghost use Rattle.resp_codec.specs.Stream.{Stream, Takes, Waits, Refuses, SkipsOnly};
+ghost use Rattle.std.specs.Prelude.{◌≡◌, ◌<◌, ◌+◌, ◌^◌, ◌++◌, ℕ, List, [], length, Ok, OnOk, OnErr};
+ghost use Rattle.resp_codec.specs.Stream.{Takes, Waits, Refuses, SkipsOnly};
 ghost use Rattle.core_types.specs.declared.bad_request.BadRequest.{BadRequest};
 
 use crate::reading::Reading;
 use core_types::{Args, BadRequest, NoMemory};
 use std::alloc::Global;
 use std::marker::Model;
-
-#[cfg(test)]
-mod tests;
 
 /// What the bytes fed so far hold next.
 #[derive(Debug, Drop)]
@@ -34,7 +29,7 @@ pub struct Reader {
 
 impl Model for Reader {
     ghost use Rattle.resp_codec.specs.Stream.{Stream};
-    ghost use Rattle.resp_codec.specs.Reading.{seen};
+    ghost use Rattle.resp_codec.specs.inner.Reading.{seen};
 
     ghost Value = { Stream };
 
@@ -82,30 +77,3 @@ impl Reader {
         self.reading.rest()
     }
 }
-
-/// A stream has one reading: no spelling begins another, what is skipped is no spelling and begins no other,
-/// a bad place is the only one, stays when more bytes come, and stands in nothing that is whole.
-pub fn one_reading()
-    ensures requests { (v w : List (List ℕ)) (a b x y : List ℕ) → Spells a v → Spells b w
-        → a ++ x ≡ b ++ y → (a ≡ b) × (v ≡ w) }
-    ensures skips { (a b x y : List ℕ) → Skips a → Skips b → a ++ x ≡ b ++ y → a ≡ b }
-    ensures apart { (v : List (List ℕ)) (a b x y : List ℕ) → Spells a v → Skips b → a ++ x ≢ b ++ y }
-    ensures fault { (bytes : List ℕ) (kind other : BadRequest) (at place : ℕ) → BadAt bytes kind at
-        → BadAt bytes other place → (kind ≡ other) × (at ≡ place) }
-    ensures fault_stays { (bytes more : List ℕ) (kind : BadRequest) (at : ℕ) → BadAt bytes kind at
-        → BadAt (bytes ++ more) kind at }
-    ensures request_without_fault { (v : List (List ℕ)) (a x : List ℕ) (kind : BadRequest) (at : ℕ)
-        → Spells a v → ¬ BadAt (a ++ x) kind at }
-    ensures skip_without_fault { (a x : List ℕ) (kind : BadRequest) (at : ℕ) → Skips a
-        → ¬ BadAt (a ++ x) kind at }
-{}
-
-/// Where a bad place stands at the front, a reader says so again and again, and nothing else.
-pub fn bad_for_good()
-    ensures again { (old new : Stream) (kind other : BadRequest) (at offset : ℕ) → BadAt old.rest kind at
-        → Refuses old new other offset → (other ≡ kind) × (offset ≡ old.passed + at) }
-    ensures no_request { (old new : Stream) (kind : BadRequest) (at : ℕ) (words : List (List ℕ))
-        → BadAt old.rest kind at → ¬ Takes old new words }
-    ensures no_wait { (old new : Stream) (kind : BadRequest) (at : ℕ) → BadAt old.rest kind at
-        → ¬ Waits old new }
-{}

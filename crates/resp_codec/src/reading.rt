@@ -1,10 +1,11 @@
 //! One request after the other, by steps.
 
 ghost use Rattle.std.specs.Prelude.{◌≡◌, ◌<◌, ◌≤◌, ◌+◌, ◌^◌, ◌++◌, ℕ, List, [], length, slice_get, Some, false, Ok, OnOk, OnErr, IfOk};
+ghost use Rattle.resp_codec.specs.Marks.{star, dollar};
 ghost use Rattle.resp_codec.specs.Inline.{begins_array};
 ghost use Rattle.resp_codec.specs.Faults.{BadAt};
 ghost use Rattle.resp_codec.specs.Stream.{Takes, Waits, Refuses, SkipsOnly};
-ghost use Rattle.resp_codec.specs.Underway.{begun, IsDue, IsDue-prop};
+ghost use Rattle.resp_codec.specs.inner.Underway.{begun, IsDue, IsDue-prop};
 ghost use Rattle.core_types.specs.declared.bad_request.BadRequest.{BadRequest};
 
 use crate::header::Header;
@@ -12,6 +13,7 @@ use crate::inline::{first_quote, line_words};
 use crate::input::Input;
 use crate::line::{FARTHEST, LF, LineEnd};
 use crate::number::{read_count, read_length};
+use crate::partial::Partial;
 use crate::reader::Got;
 use core_types::{Args, BadRequest, Blob, NoMemory, Sequence};
 use std::alloc::Global;
@@ -50,19 +52,20 @@ pub(crate) struct Reading {
     // The bytes that were read of the next request.
     read: u64,
     stage: Stage,
-    // How many words the next request has, and those that were read.
+    // How many words the next request has, those that were read, and what came of the next.
     count: usize,
-    words: Args,
+    words: Vec<Blob>,
+    word: Partial,
     input: Input,
-    ghost due: { IsDue stage count words } by { IsDue-prop stage count words },
-    ghost read_is: { read ≡ length (begun stage count words) },
-    ghost small: { passed + read + length input < 2 ^ 64 },
+    ghost due: { IsDue stage count words.items word } by { IsDue-prop stage count words.items word },
+    ghost read_is: { read ≡ length (begun stage count words.items) },
+    ghost small: { passed + read + length word + length input < 2 ^ 64 },
 }
 
 impl Reading {
-    ghost use Rattle.resp_codec.specs.Reading.{seen, Steps};
-    ghost use Rattle.resp_codec.specs.Line.{IsFound, IsInlineLine};
-    ghost use Rattle.resp_codec.specs.Header.{IsHeaderLine};
+    ghost use Rattle.resp_codec.specs.inner.Reading.{seen, Steps, IsGathered};
+    ghost use Rattle.resp_codec.specs.inner.Line.{IsFound, IsInlineLine};
+    ghost use Rattle.resp_codec.specs.inner.Header.{IsHeaderLine};
 
     /// Nothing came yet.
     pub(crate) fn new(alloc: Global) -> Reading
@@ -75,7 +78,8 @@ impl Reading {
             read: 0,
             stage: Stage::Request,
             count: 0,
-            words: Sequence::new(alloc),
+            words: Vec::new(alloc),
+            word: Partial::new(alloc),
             input: Input::new(alloc),
         }
     }
@@ -94,7 +98,7 @@ impl Reading {
     pub(crate) fn rest(&self) -> u64
         ensures rest { result ≡ length (seen self.now).rest }
     {
-        self.read + self.input.len() as u64
+        self.read + self.word.len() as u64 + self.input.len() as u64
     }
 
     /// Takes the next request.
@@ -142,7 +146,7 @@ impl Reading {
 
     fn read_count(&mut self) -> Step
         requires stage { self.old.stage ≡ Stage.Request }
-        requires mark { slice_get self.old.input 0 ≡ Some 42 }
+        requires mark { slice_get self.old.input 0 ≡ Some star }
         ensures { Steps self.old self.new result }
     {
         match self.input.header() {
@@ -154,7 +158,7 @@ impl Reading {
 
     fn take_count(&mut self, end: usize) -> Step
         requires stage { self.old.stage ≡ Stage.Request }
-        requires mark { slice_get self.old.input 0 ≡ Some 42 }
+        requires mark { slice_get self.old.input 0 ≡ Some star }
         requires line { IsHeaderLine self.old.input end }
         ensures { Steps self.old self.new result }
     {
@@ -190,7 +194,7 @@ impl Reading {
 
     fn take_length(&mut self, end: usize) -> Step
         requires stage { self.old.stage ≡ Stage.Length }
-        requires mark { slice_get self.old.input 0 ≡ Some 36 }
+        requires mark { slice_get self.old.input 0 ≡ Some dollar }
         requires line { IsHeaderLine self.old.input end }
         ensures { Steps self.old self.new result }
     {
@@ -203,28 +207,47 @@ impl Reading {
         Step::Onward
     }
 
-    fn read_word(&mut self, length: usize) -> Result<Step, NoMemory>
-        requires { self.old.stage ≡ Stage.Word length }
+    fn read_word(&mut self, size: usize) -> Result<Step, NoMemory>
+        requires { self.old.stage ≡ Stage.Word size }
         ensures ok { IfOk result (Steps self.old self.new) }
         ensures err { OnErr result (seen self.new ≡ seen self.old) }
     {
-        match self.input.line_end(length) {
+        self.gather(size)?;
+        if self.word.len() < size {
+            return Ok(Step::Wait);
+        }
+        match self.input.line_end(0) {
             LineEnd::Open => Ok(Step::Wait),
-            LineEnd::Missing(place) => Ok(self.refuse(BadRequest::NoLineEnd, place)),
-            LineEnd::There => self.take_word(length),
+            LineEnd::Missing(place) => Ok(self.refuse(BadRequest::NoLineEnd, size + place)),
+            LineEnd::There => self.take_word(size),
         }
     }
 
-    fn take_word(&mut self, length: usize) -> Result<Step, NoMemory>
-        requires stage { self.old.stage ≡ Stage.Word length }
-        requires whole { IsFound self.old.input length LineEnd.There }
+    // Takes what came of a word of this size out of the input.
+    fn gather(&mut self, size: usize) -> Result<(), NoMemory>
+        requires { self.old.stage ≡ Stage.Word size }
+        ensures seen { seen self.new ≡ seen self.old }
+        ensures stage { self.new.stage ≡ self.old.stage }
+        ensures shorter { length self.new.input ≤ length self.old.input }
+        ensures all { OnOk result (IsGathered size self.new) }
+    {
+        let more = self.input.len().min(size - self.word.len());
+        self.word.add(self.input.front(more), size)?;
+        self.input.skip(more);
+        Ok(())
+    }
+
+    fn take_word(&mut self, size: usize) -> Result<Step, NoMemory>
+        requires stage { self.old.stage ≡ Stage.Word size }
+        requires all { length self.old.word ≡ size }
+        requires whole { IsFound self.old.input 0 LineEnd.There }
         ensures ok { IfOk result (Steps self.old self.new) }
         ensures err { OnErr result (seen self.new ≡ seen self.old) }
     {
-        let word = Blob::from_slice(self.alloc, self.input.front(length))?;
-        self.words.push(word)?;
-        self.input.skip(length + 2);
-        self.read += length as u64 + 2;
+        self.words.reserve(1)?;
+        self.words.push_reserved(self.word.take());
+        self.input.skip(2);
+        self.read += size as u64 + 2;
         if self.words.len() < self.count {
             self.stage = Stage::Length;
             return Ok(Step::Onward);
@@ -232,8 +255,8 @@ impl Reading {
         self.stage = Stage::Request;
         self.passed += self.read;
         self.read = 0;
-        let none = Sequence::new(self.alloc);
-        Ok(Step::Took(mem::replace(&mut self.words, none)))
+        let none = Vec::new(self.alloc);
+        Ok(Step::Took(Sequence::from_vec(mem::replace(&mut self.words, none))))
     }
 
     fn read_line(&mut self) -> Result<Step, NoMemory>
@@ -272,7 +295,7 @@ impl Reading {
 
     // Why no request stands here, and where, counted from the first byte that was not read.
     fn refuse(&self, kind: BadRequest, place: usize) -> Step
-        requires within { place ≤ length self.now.input }
+        requires within { place ≤ length self.now.word + length self.now.input }
         requires bad { BadAt (seen self.now).rest kind (self.now.read + place) }
         ensures { Steps self.now self.now result }
     {

@@ -1,8 +1,8 @@
 //! Words: bulk strings, out of a byte list that is all there.
 
 ghost use Rattle.std.specs.Prelude.{◌≡◌, ◌≤◌, ◌++◌, length, drop, IfOk};
-ghost use Rattle.resp_codec.specs.Header.{header};
-ghost use Rattle.resp_codec.specs.Word.{JudgesWord};
+ghost use Rattle.resp_codec.specs.Marks.{dollar, header};
+ghost use Rattle.resp_codec.specs.inner.Word.{JudgesWord};
 
 use crate::header::{Header, judge};
 use crate::line::{CR, LineEnd, find, line_end};
@@ -45,7 +45,7 @@ pub(crate) fn read_word(alloc: Global, bytes: &[u8]) -> Result<Word, NoMemory>
 fn take_word(alloc: Global, bytes: &[u8], start: usize, size: usize) -> Result<Word, NoMemory>
     requires within { start ≤ length bytes.now }
     requires small { size ≤ 536870912 }
-    requires parts { bytes.now ≡ header 36 size ++ drop start bytes.now }
+    requires parts { bytes.now ≡ header dollar size ++ drop start bytes.now }
     ensures { IfOk result (JudgesWord bytes.now) }
 {
     let (_, rest) = bytes.split_at(start);

@@ -3,14 +3,18 @@
 ghost use Rattle.std.specs.Prelude.{◌≡◌, ◌∷◌, ◌++◌, length, take, OnOk, OnErr};
 ghost use Rattle.std.specs.List.{flat_map};
 ghost use Rattle.std.specs.Fmt.{decimal, signed_decimal};
-ghost use Rattle.resp_codec.specs.ReplyText.{text, part_text, array_header};
-ghost use Rattle.resp_codec.specs.Spelling.{multibulk, IsRequest, bulk, crlf};
+ghost use Rattle.resp_codec.specs.Marks.{star, colon, marked, header};
+ghost use Rattle.resp_codec.specs.ReplyText.{text, part_text};
+ghost use Rattle.resp_codec.specs.Spelling.{multibulk, IsRequest, bulk};
 
-use crate::decimal::{write_number, write_signed};
+use byte_text::{i64_text, u64_text};
 use core_types::{Args, Blob, NoMemory, Part, Replies, Reply};
 
-#[cfg(test)]
-mod tests;
+// A bulk of more bytes than this is large.
+const LARGE: usize = 65_536;
+
+// What stands around the bytes of a bulk: `$`, a decimal of at most twenty digits, and two line ends.
+const BULK_FRAME: usize = 25;
 
 /// Appends the text of a reply, by RESP2. An `Err` leaves the buffer as it was.
 pub fn write_reply(out: &mut Blob, reply: &Reply) -> Result<(), NoMemory>
@@ -59,7 +63,7 @@ fn append_reply(out: &mut Blob, reply: &Reply) -> Result<(), NoMemory>
 
 fn append_array(out: &mut Blob, replies: &Replies) -> Result<(), NoMemory>
     ensures ok { OnOk result
-        (out.new ≡ out.old ++ (array_header replies.now.count ++ flat_map part_text replies.now.parts)) }
+        (out.new ≡ out.old ++ (header star replies.now.count ++ flat_map part_text replies.now.parts)) }
     ensures err { OnErr result (take (length out.old) out.new ≡ out.old) }
 {
     append_header(out, b'*', replies.count())?;
@@ -99,6 +103,11 @@ fn append_bulk(out: &mut Blob, bytes: &Blob) -> Result<(), NoMemory>
     ensures ok { OnOk result (out.new ≡ out.old ++ bulk bytes.now) }
     ensures err { OnErr result (take (length out.old) out.new ≡ out.old) }
 {
+    // The buffer grows by the size of a large bulk, and not to the double; a shorter one than what stands
+    // there leaves it to grow as ever, so that what stands there is moved seldom.
+    if bytes.len() > LARGE.max(out.len()) {
+        out.reserve(bytes.len().saturating_add(BULK_FRAME))?;
+    }
     append_header(out, b'$', bytes.len() as u64)?;
     out.push_slice(bytes.as_slice())?;
     out.push_slice(b"\r\n")
@@ -106,26 +115,26 @@ fn append_bulk(out: &mut Blob, bytes: &Blob) -> Result<(), NoMemory>
 
 // A mark, and a count in decimal, as a line.
 fn append_header(out: &mut Blob, mark: u8, count: u64) -> Result<(), NoMemory>
-    ensures ok { OnOk result (out.new ≡ out.old ++ (mark ∷ decimal count ++ crlf)) }
+    ensures ok { OnOk result (out.new ≡ out.old ++ header mark count) }
     ensures err { OnErr result (take (length out.old) out.new ≡ out.old) }
 {
     out.push(mark)?;
-    write_number(out, count)?;
+    out.push_slice(u64_text(count).as_slice())?;
     out.push_slice(b"\r\n")
 }
 
 fn append_int(out: &mut Blob, n: i64) -> Result<(), NoMemory>
-    ensures ok { OnOk result (out.new ≡ out.old ++ (58 ∷ signed_decimal n ++ crlf)) }
+    ensures ok { OnOk result (out.new ≡ out.old ++ marked colon (signed_decimal n)) }
     ensures err { OnErr result (take (length out.old) out.new ≡ out.old) }
 {
     out.push(b':')?;
-    write_signed(out, n)?;
+    out.push_slice(i64_text(n).as_slice())?;
     out.push_slice(b"\r\n")
 }
 
 // A mark and a text, as a line.
 fn append_line(out: &mut Blob, mark: u8, line: &[u8]) -> Result<(), NoMemory>
-    ensures ok { OnOk result (out.new ≡ out.old ++ (mark ∷ line.now ++ crlf)) }
+    ensures ok { OnOk result (out.new ≡ out.old ++ marked mark line.now) }
     ensures err { OnErr result (take (length out.old) out.new ≡ out.old) }
 {
     out.push(mark)?;

@@ -1,5 +1,5 @@
 -- The effects of one unit, replayed one after the other.
-use Rattle.std.proofs.Common.{◌≡◌, ℕ, ◌+◌, ◌<◌, List, [], ◌∷◌, ◌++◌, length, take, get_or, slice_get, Some, Ok, Err, refl, sym, ap, ◌∙◌}
+use Rattle.std.proofs.Common.{◌≡◌, ℕ, ◌+◌, ◌<◌, List, [], ◌∷◌, ◌++◌, length, take, get_or, slice_get, Some, Ok, refl, sym, ap, ◌∙◌}
 use Rattle.std.proofs.lemmas.List.{take_more}
 use Rattle.std.proofs.lemmas.Option.{slice_get_read}
 use Rattle.core_types.specs.Keys.{Keys}
@@ -7,9 +7,9 @@ use Rattle.core_types.specs.declared.effect.Effect.{Effect}
 use Rattle.effect_log.specs.declared.reason.Reason.{Reason}
 use Rattle.effect_log.specs.declared.replayer.ReplayStop.{ReplayStop}
 use Rattle.effect_log.specs.declared.replayer.ReplayStop.TheVariants as replaying
-use Rattle.effect_log.specs.Replay.{Meaning, replayed}
+use Rattle.effect_log.specs.Replay.{Meaning, Refuses, replayed}
 use Rattle.effect_log.proofs.Replays.{replayed-on}
-use Rattle.restart.specs.Replaying.{UnitStop, stopped_by}
+use Rattle.restart.specs.inner.Replaying.{UnitStop, stopped_by}
 
 -- one effect alone
 one : (replay : Meaning) (keys then : Keys) (e : Effect) → replay keys e ≡ Ok then → replayed replay keys (e ∷ []) ≡ Ok then
@@ -24,9 +24,9 @@ replayed-more replay keys then last effects n e less is made more =
 
 -- an effect that was not replayed
 pub stops_at : (replay : Meaning) (stop : ReplayStop) (keys then : Keys) (effects : List Effect) (starts : List ℕ) (n at : ℕ) (e : Effect) → n < length effects → e ≡ get_or effects n e → replayed replay keys (take n effects) ≡ Ok then
-    → ((why : Reason) → stop ≡ replaying.Refused why → replay then e ≡ Err why) → slice_get starts n ≡ Some at
+    → ((place : ℕ) (why : Reason) → stop ≡ replaying.Refused place why → (place ≡ 0) × Refuses replay then e why) → slice_get starts n ≡ Some at
     → UnitStop replay (stopped_by stop at) keys effects starts
-stops_at replay (replaying.Refused why) keys then effects starts n at e less is made refused start = (
+stops_at replay (replaying.Refused place why) keys then effects starts n at e less is made refused start = (
   refl,
   record {
     count = n;
@@ -34,8 +34,8 @@ stops_at replay (replaying.Refused why) keys then effects starts n at e less is 
     made = then;
     there = slice_get_read effects (length effects) n e refl less is;
     before = made;
-    refused = refused why refl;
+    refused = (refused place why refl).1;
     start = start;
   },
 )
-stops_at replay replaying.Memory keys then effects starts n at e less is made refused start = tt
+stops_at replay (replaying.Stopped stop) keys then effects starts n at e less is made refused start = tt

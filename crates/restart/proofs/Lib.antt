@@ -1,3 +1,7 @@
 pub mod Effects
-pub mod Begun
 pub mod Units
+pub mod OneOpening
+pub mod SameDisk
+pub mod Crash
+pub mod KeptLogs
+pub mod OpenLogs

@@ -13,9 +13,8 @@ use Rattle.effect_log.specs.Replay.{Meaning, replayed, effects_of, Holds, IsRefu
 use Rattle.effect_log.proofs.Replays.{replayed-on, units_bytes-push, effects_of-push, each-push, unit_some}
 use Rattle.restart.specs.declared.opening.OpenStop.{OpenStop}
 use Rattle.restart.specs.declared.opening.OpenStop.TheVariants as stops
-use Rattle.restart.specs.Restart.{BytesStop}
-use Rattle.restart.specs.Replaying.{AreRequests, UnitStop}
-use Rattle.restart.specs.Progress.{Progress}
+use Rattle.restart.specs.inner.Replaying.{AreReplayable, UnitStop, BytesStop}
+use Rattle.restart.specs.inner.Progress.{Progress}
 
 some_injective : (a b : ℕ) → Some a ≡ Some b → a ≡ b
 some_injective a b e = cc
@@ -25,13 +24,13 @@ pub starts : (replay : Meaning) (bytes : List ℕ) (log : Log) (keys : Keys) →
 starts replay bytes log keys same place none =
     record { units = []; each = tt; same = same; whole = rw (place, same) refl; place = place; makes = ap Ok (sym none) }
 
--- the effects of a unit are requests
-pub are_requests : (effects : List Effect) → AllByRecursion IsLoggable effects → AreRequests effects
-are_requests [] each = tt
-are_requests (e ∷ effects) each = (each.0.request, are_requests effects each.1)
+-- the effects of a unit can be replayed
+are_replayable : (effects : List Effect) → AllByRecursion IsLoggable effects → AreReplayable effects
+are_replayable [] each = tt
+are_replayable (e ∷ effects) each = (each.0.request, are_replayable effects each.1)
 
-pub requests_of_unit : (old new : Log) (effects : List Effect) → TakesUnit old new effects → AreRequests effects
-requests_of_unit old new effects t = rw t.effects_are (are_requests t.unit.effects t.is_unit.each)
+pub unit_replayable : (old new : Log) (effects : List Effect) → TakesUnit old new effects → AreReplayable effects
+unit_replayable old new effects t = rw t.effects_are (are_replayable t.unit.effects t.is_unit.each)
 
 module _ (replay : Meaning) (bytes : List ℕ) (old new : Log) (keys : Keys) (p : Progress replay bytes old keys) (effects : List Effect) (t : TakesUnit old new effects) where
   all : bytes ≡ units_bytes p.units ++ (unit_bytes t.unit ++ ahead new)
@@ -72,7 +71,7 @@ module _ (replay : Meaning) (bytes : List ℕ) (old new : Log) (keys : Keys) (p 
       place = (some_injective at (old.place + effect_start t.unit refused.count) (sym refused.start ∙ t.starts refused.count (slice_get_within effects refused.count refused.effect refused.there))) ∙ ap (λ (n : ℕ). n + effect_start t.unit refused.count) p.place;
     },
   )
-  stops_in stops.Memory stop = tt
+  stops_in (stops.Stopped why) stop = tt
   stops_in stops.NotBuilt stop = stop
   stops_in stops.Dir stop = stop
 

@@ -1,3 +1,3 @@
 pub mod Restart
-pub mod Replaying
-pub mod Progress
+pub mod OpenLog
+pub mod inner

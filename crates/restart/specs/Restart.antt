@@ -1,16 +1,11 @@
 -- What a directory restarts to, whatever replaying an effect means.
-use Rattle.std.specs.Prelude.{◌≡◌, ◌⊎◌, ◌≤◌, ℕ, List, [], length, take, Option, Some, None, IfSome, IsSome}
-use Rattle.core_types.specs.Causes.{Rose}
+use Rattle.std.specs.Prelude.{◌≡◌, ◌↔◌, ℕ, List, [], take, Option, Some, None, IsSome}
 use Rattle.core_types.specs.Keys.{Keys, no_keys}
-use Rattle.disk_model.specs.declared.file_name.FileName.TheVariants.{Log}
-use Rattle.disk_model.specs.declared.dir.ReadAllStop.{ReadAllStop}
-use Rattle.disk_model.specs.declared.dir.ReadAllStop.TheVariants as reads
-use Rattle.disk_model.specs.Files.{Files, with_file, Become, Stay}
+use Rattle.disk_model.specs.Disk.{Disk}
+use Rattle.disk_model.specs.Files.{Files}
+use Rattle.disk_model.specs.Runs.{MayLeave}
 use Rattle.effect_log.specs.declared.reason.Reason.{Reason}
 use Rattle.effect_log.specs.Replay.{Meaning, Holds, IsRefused}
-use Rattle.restart.specs.declared.opening.Opened.{Opened}
-use Rattle.restart.specs.declared.opening.OpenStop.{OpenStop}
-use Rattle.restart.specs.declared.opening.OpenStop.TheVariants as stops
 
 -- a log that was opened: the keys that it stands for, and its bytes without a torn unit
 pub record Opening : Type 0 where
@@ -43,42 +38,12 @@ pub record HasDumpAlone (files : Files) : Type 0 where
   pub no_log : files.log ≡ None
   pub dump : IsSome files.dump
 
--- The log is opened: the directory stood for the keys, and the log has its bytes without a torn unit.
-pub record IsOpen (replay : Meaning) (old new : Option Files) (opening : Opening) : Type 0 where
-  pub opens : IfSome old (λ known. Opens replay known opening)
-  pub log : Become (with_file Log opening.log) old new
+-- Both restart to the same keys, or neither does.
+abbrev pub RestartsSame : Meaning → Files → Files → Type 0
+RestartsSame replay files others = (keys : Keys) → Restarts replay files keys ↔ Restarts replay others keys
 
--- the lengths that were found
-pub record AreLengths (old : Option Files) (opened : Opened) (opening : Opening) : Type 0 where
-  pub kept : opened.kept ≡ length opening.log
-  pub within : opened.kept ≤ opened.length
-  pub length_is : IfSome old (λ known. IfSome known.log (λ bytes. opened.length ≡ length bytes))
-  pub new : IfSome old (λ known. known.log ≡ None → opened.length ≡ 0)
-
-pub record HasOpened (replay : Meaning) (old new : Option Files) (keys : Keys) (opened : Opened) : Type 0 where
-  pub opening : Opening
-  pub is_open : IsOpen replay old new opening
-  pub keys_are : opening.keys ≡ keys
-  pub lengths : AreLengths old opened opening
-
--- The directory failed while the log was opened: the files are as they were, or the log is as an opened one.
-abbrev pub IsPartlyOpen : Meaning → Option Files → Option Files → Type 0
-IsPartlyOpen replay old new = Stay old new ⊎ ((opening : Opening) × IsOpen replay old new opening)
-
--- Why a log was not opened, and how that left the directory. The numbers are its counts of faults before and after.
-abbrev pub OpenStops : Meaning → OpenStop → (before now : ℕ) (old new : Option Files) → Type 0
-OpenStops replay (stops.LogRefused file at why) before now old new = (file ≡ Log) × IfSome old (λ known. IsRefusedLog replay known why at) × Stay old new
-OpenStops replay stops.NotBuilt before now old new = IfSome old HasDumpAlone × Stay old new
-OpenStops replay stops.Dir before now old new = Rose before now × IsPartlyOpen replay old new
-OpenStops replay stops.Memory before now old new = Stay old new
-
--- Why the bytes of a log were not replayed.
-abbrev pub BytesStop : Meaning → OpenStop → List ℕ → Type 0
-BytesStop replay (stops.LogRefused file at why) bytes = (file ≡ Log) × IsRefused replay bytes why at
-BytesStop replay stops.Memory bytes = Unit {0}
-BytesStop replay stop bytes = ⊥
-
--- Which stop of opening a stop of reading leads to.
-abbrev pub stop_of_read : ReadAllStop → OpenStop
-stop_of_read reads.Dir = stops.Dir
-stop_of_read reads.Memory = stops.Memory
+-- The files restart as some do that a crash of this disk may leave. The files that the disk reads as are among these.
+pub record RestartsAsLeft (replay : Meaning) (disk : Option Disk) (files : Files) : Type 0 where
+  pub left : Files
+  pub may : MayLeave disk left
+  pub same : RestartsSame replay files left

@@ -1,14 +1,18 @@
 //! Opens the log of a directory.
 
-ghost use Rattle.std.specs.Prelude.{◌≡◌, ◌⊎◌, ◌≤◌, ℕ, List, length, None, Some, IfOk, IfErr, OnOk, OnErr, IfSome};
-ghost use Rattle.core_types.specs.Causes.{HasCause};
+ghost use Rattle.std.specs.Prelude.{◌≡◌, true, Err, IfOk, IfErr};
+ghost use Rattle.core_types.specs.Causes.{HasCauseFor};
 ghost use Rattle.core_types.specs.Keys.{no_keys};
-ghost use Rattle.disk_model.specs.Files.{with_cut, Become, Stay, IsAtLeast};
-ghost use Rattle.restart.specs.Restart.{HasOpened, OpenStops, stop_of_read};
+ghost use Rattle.core_types.specs.declared.stop.Stop.TheVariants as stop;
+ghost use Rattle.disk_model.specs.Told.{files_told, disk_told};
+ghost use Rattle.disk_model.specs.Runs.{LeavesOnly, SameDisk};
+ghost use Rattle.restart.specs.Restart.{RestartsAsLeft};
+ghost use Rattle.restart.specs.OpenLog.{Finds, HasOpened, IsUnopened, OpenStops, stop_of_read};
 ghost use Rattle.restart.specs.declared.opening.OpenStop.TheVariants as stops;
 
-use crate::replaying::replay_log;
-use core_types::NoMemory;
+use crate::finding::find;
+use crate::keeping::make_safe;
+use core_types::{NoMemory, Stop};
 use disk_model::{Dir, DirFault, FileName, ReadAllStop};
 use effect_log::{Reason, Replayer};
 use std::alloc::Global;
@@ -20,6 +24,8 @@ pub struct Opened {
     pub length: u64,
     /// The number of its bytes without a torn unit: those that it has now.
     pub kept: u64,
+    /// Whether the log was made of a dump. Dumps are not read yet, so it never was.
+    pub imported: bool,
 }
 
 /// Why a log was not opened.
@@ -38,15 +44,15 @@ pub enum OpenStop {
     NotBuilt,
     /// The directory failed, and counted it.
     Dir,
-    /// Memory ran out.
-    Memory,
+    /// Memory ran out, or a counter of the replayer stands at its end.
+    Stopped(Stop),
 }
 
 impl From<NoMemory> for OpenStop {
-    ghost from_gives = { λ _ stop. stop ≡ stops.Memory };
+    ghost from_gives = { λ _ end. end ≡ stops.Stopped stop.Memory };
 
     fn from(_: NoMemory) -> OpenStop {
-        OpenStop::Memory
+        OpenStop::Stopped(Stop::Memory)
     }
 }
 
@@ -64,7 +70,7 @@ impl From<ReadAllStop> for OpenStop {
     fn from(stop: ReadAllStop) -> OpenStop {
         match stop {
             ReadAllStop::Dir => OpenStop::Dir,
-            ReadAllStop::Memory => OpenStop::Memory,
+            ReadAllStop::Memory => OpenStop::Stopped(Stop::Memory),
         }
     }
 }
@@ -73,8 +79,9 @@ impl From<ReadAllStop> for OpenStop {
 /// safe from a crash, cuts off a torn unit at its end, and makes the names safe. Where there is no log it
 /// begins one.
 ///
-/// A log that is refused leaves the directory as it was. After an `Err` the replayer holds what the first
-/// effects made, and is to be given up.
+/// Whenever a crash comes, what it leaves restarts to the keys that the directory stood for at the entry, or
+/// as what a crash at the entry might have left. A log that is refused leaves the directory as it was. After
+/// an `Err` the replayer holds what the first effects made, and is to be given up.
 pub fn open_log<D: Dir, R: Replayer>(
     alloc: Global,
     dir: &mut D,
@@ -82,74 +89,33 @@ pub fn open_log<D: Dir, R: Replayer>(
 ) -> Result<Opened, OpenStop>
     requires none { R.keys replayer.old ≡ no_keys }
     ensures opened { IfOk result (λ opened.
-        HasOpened R.meaning (D.files dir.old) (D.files dir.new) (R.keys replayer.new) opened) }
-    ensures stop { IfErr result (λ stop.
-        OpenStops R.meaning stop (D.faults dir.old) (D.faults dir.new) (D.files dir.old) (D.files dir.new)) }
-    ensures later { D.faults dir.old ≤ D.faults dir.new }
+        HasOpened R.meaning (D.told dir.old) (D.told dir.new) (R.keys replayer.new) opened) }
+    ensures stop { IfErr result (λ stop. OpenStops R.meaning stop (D.told dir.old) (D.told dir.new)) }
+    ensures crash { LeavesOnly (D.told dir.old) (D.told dir.new)
+        (RestartsAsLeft R.meaning (disk_told (D.told dir.old))) }
+    ensures spent { result ≡ Err (stops.Stopped stop.NumbersSpent) → R.is_spent replayer.new ≡ true }
+    ensures cause { HasCauseFor stops.Dir (D.told dir.old).faults (D.told dir.new).faults result }
 {
-    match dir.read_all(alloc, FileName::Log)? {
-        Some(bytes) => open_found(alloc, dir, replayer, bytes.as_slice()),
-        None => begin_log(alloc, dir, replayer),
-    }
+    let found = find(alloc, dir, replayer)?;
+    make_safe(dir, &found)?;
+    Ok(found.opened())
 }
 
-// Opens a log that has these bytes.
-fn open_found<D: Dir, R: Replayer>(
+/// Answers what `open_log` would, and changes nothing of the directory: how long its log is, how much of it is
+/// whole units, and into the replayer the keys; or why it is not opened.
+pub fn look<D: Dir, R: Replayer>(
     alloc: Global,
     dir: &mut D,
     replayer: &mut R,
-    bytes: &[u8],
 ) -> Result<Opened, OpenStop>
     requires none { R.keys replayer.old ≡ no_keys }
-    requires found { IfSome (D.files dir.old) (λ known. known.log ≡ Some bytes.now) }
-    ensures opened { IfOk result (λ opened.
-        HasOpened R.meaning (D.files dir.old) (D.files dir.new) (R.keys replayer.new) opened) }
-    ensures stop { IfErr result (λ stop.
-        OpenStops R.meaning stop (D.faults dir.old) (D.faults dir.new) (D.files dir.old) (D.files dir.new)) }
-    ensures later { D.faults dir.old ≤ D.faults dir.new }
+    ensures found { IfOk result (λ opened.
+        Finds R.meaning (files_told (D.told dir.old)) (R.keys replayer.new) opened) }
+    ensures stop { IfErr result (λ stop. IsUnopened R.meaning stop (files_told (D.told dir.old))) }
+    ensures same { SameDisk (D.told dir.old) (D.told dir.new) }
+    ensures spent { result ≡ Err (stops.Stopped stop.NumbersSpent) → R.is_spent replayer.new ≡ true }
+    ensures cause { HasCauseFor stops.Dir (D.told dir.old).faults (D.told dir.new).faults result }
 {
-    let length = bytes.len() as u64;
-    let kept = replay_log(alloc, bytes, replayer)?;
-    dir.sync(FileName::Log)?;
-    keep_front(dir, length, kept)?;
-    dir.sync_names()?;
-    Ok(Opened { length, kept })
-}
-
-// Cuts the log, which has so many bytes, to the first of them that are kept, and makes that safe.
-fn keep_front<D: Dir>(dir: &mut D, size: u64, kept: u64) -> Result<(), DirFault>
-    requires within { kept ≤ size }
-    requires there { IfSome (D.files dir.old) (λ known. (bytes : List ℕ) × (known.log ≡ Some bytes) × (size ≡ length bytes)) }
-    ensures ok { OnOk result (Become (with_cut FileName.Log kept) (D.files dir.old) (D.files dir.new)) }
-    ensures err { OnErr result (Stay (D.files dir.old) (D.files dir.new)
-        ⊎ Become (with_cut FileName.Log kept) (D.files dir.old) (D.files dir.new)) }
-    ensures cause { HasCause (D.faults dir.old) (D.faults dir.new) result }
-{
-    if kept == size {
-        return Ok(());
-    }
-    dir.cut(FileName::Log, kept)?;
-    dir.sync(FileName::Log)
-}
-
-// Begins a log where there is none, and no keys.
-fn begin_log<D: Dir, R: Replayer>(
-    alloc: Global,
-    dir: &mut D,
-    replayer: &R,
-) -> Result<Opened, OpenStop>
-    requires none { R.keys replayer.now ≡ no_keys }
-    requires new { IfSome (D.files dir.old) (λ known. known.log ≡ None) }
-    ensures opened { IfOk result (λ opened.
-        HasOpened R.meaning (D.files dir.old) (D.files dir.new) (R.keys replayer.now) opened) }
-    ensures stop { IfErr result (λ stop.
-        OpenStops R.meaning stop (D.faults dir.old) (D.faults dir.new) (D.files dir.old) (D.files dir.new)) }
-    ensures later { D.faults dir.old ≤ D.faults dir.new }
-{
-    if dir.read_all(alloc, FileName::Dump)?.is_some() {
-        return Err(OpenStop::NotBuilt);
-    }
-    dir.create(FileName::Log)?;
-    dir.sync_names()?;
-    Ok(Opened { length: 0, kept: 0 })
+    let found = find(alloc, dir, replayer)?;
+    Ok(found.opened())
 }

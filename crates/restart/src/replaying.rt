@@ -1,10 +1,11 @@
 //! Replays the units of a log.
 
-ghost use Rattle.std.specs.Prelude.{◌≡◌, ◌≤◌, Ok, IfOk, IfErr, OnOk, length};
+ghost use Rattle.std.specs.Prelude.{◌≡◌, ◌≤◌, true, Ok, Err, IfOk, IfErr, OnOk, length};
 ghost use Rattle.core_types.specs.Keys.{no_keys};
+ghost use Rattle.core_types.specs.declared.stop.Stop.TheVariants as stop;
 ghost use Rattle.effect_log.specs.Replay.{Holds, replayed};
-ghost use Rattle.restart.specs.Restart.{BytesStop};
-ghost use Rattle.restart.specs.Replaying.{UnitStop, AreRequests, stopped_by};
+ghost use Rattle.restart.specs.declared.opening.OpenStop.TheVariants as stops;
+ghost use Rattle.restart.specs.inner.Replaying.{BytesStop, UnitStop, AreReplayable, stopped_by};
 
 use crate::opening::OpenStop;
 use core_types::Effects;
@@ -23,6 +24,7 @@ pub(crate) fn replay_log<R: Replayer>(
     ensures holds { IfOk result (λ kept. Holds R.meaning bytes.now (R.keys replayer.new) kept) }
     ensures within { IfOk result (λ kept. kept ≤ length bytes.now) }
     ensures stop { IfErr result (λ stop. BytesStop R.meaning stop bytes.now) }
+    ensures spent { result ≡ Err (stops.Stopped stop.NumbersSpent) → R.is_spent replayer.new ≡ true }
 {
     let mut reader = LogReader::new(alloc, bytes, 0);
     loop {
@@ -48,10 +50,11 @@ fn replay_unit<R: Replayer>(
     effects: &Effects,
     replayer: &mut R,
 ) -> Result<(), OpenStop>
-    requires each { AreRequests effects.now }
+    requires each { AreReplayable effects.now }
     requires starts { length reader.now.starts ≡ length effects.now }
     ensures ok { OnOk result (replayed R.meaning (R.keys replayer.old) effects.now ≡ Ok (R.keys replayer.new)) }
     ensures stop { IfErr result (λ stop. UnitStop R.meaning stop (R.keys replayer.old) effects.now reader.now.starts) }
+    ensures spent { result ≡ Err (stops.Stopped stop.NumbersSpent) → R.is_spent replayer.new ≡ true }
 {
     for (n, effect) in effects.as_slice().iter().enumerate() {
         if let Err(stop) = replayer.replay(alloc, effect) {
@@ -66,11 +69,11 @@ fn stopped(stop: ReplayStop, offset: u64) -> OpenStop
     ensures { result ≡ stopped_by stop offset }
 {
     match stop {
-        ReplayStop::Refused(reason) => OpenStop::LogRefused {
+        ReplayStop::Refused(_, reason) => OpenStop::LogRefused {
             file: FileName::Log,
             offset,
             reason,
         },
-        ReplayStop::Memory => OpenStop::Memory,
+        ReplayStop::Stopped(stop) => OpenStop::Stopped(stop),
     }
 }

@@ -3,10 +3,11 @@
 ghost use Rattle.std.specs.Prelude.{◌≡◌, ◌++◌, ℕ, List, Option, Some, None, take, IfOk, OnOk, OnErr};
 ghost use Rattle.std.specs.Option.{option_map, option_copied};
 ghost use Rattle.disk_model.specs.Files.{no_files, file, put, with_file, with_appended, with_cut, with_moved, HasFew};
-ghost use Rattle.disk_model.specs.History.{effect_of};
+ghost use Rattle.disk_model.specs.inner.Recorded.{call_of, outcome_of, effect, effect_so};
+ghost use Rattle.disk_model.specs.Past.{front_of};
 ghost use Rattle.disk_model.specs.declared.file_name.FileName.{FileName};
 
-use super::deed::{Deed, front};
+use super::deed::{Asked, Came, Deed, front};
 use crate::FileName;
 use core_types::{Blob, NoMemory};
 use std::alloc::Global;
@@ -86,20 +87,8 @@ impl Contents {
         }
     }
 
-    /// Puts a file of these bytes under the name.
-    pub(crate) fn set(&mut self, name: FileName, bytes: Blob)
-        ensures bytes { self.new ≡ with_file name bytes self.old }
-    {
-        match name {
-            FileName::Log => self.log = Some(bytes),
-            FileName::LogTemp => self.log_temp = Some(bytes),
-            FileName::Dump => self.dump = Some(bytes),
-            FileName::DumpTemp => self.dump_temp = Some(bytes),
-        }
-    }
-
-    // Puts a file under the name, or none.
-    fn put(&mut self, name: FileName, bytes: Option<Blob>)
+    /// Puts a file under the name, or none.
+    pub(crate) fn put(&mut self, name: FileName, bytes: Option<Blob>)
         ensures bytes { self.new ≡ put name bytes self.old }
     {
         match name {
@@ -110,32 +99,42 @@ impl Contents {
         }
     }
 
-    /// What a call does to the files. Where an append finds no memory it does nothing.
+    /// Does what came of a call. Where an append finds no memory it does nothing.
     pub(crate) fn apply(&mut self, alloc: Global, deed: &Deed) -> Result<(), NoMemory>
-        ensures ok { OnOk result (self.new ≡ effect_of deed.now self.old) }
+        ensures ok { OnOk result
+            (self.new ≡ effect_so (call_of deed.now.asked) (outcome_of deed.now.came) self.old) }
         ensures err { OnErr result (self.new ≡ self.old) }
     {
-        match deed {
-            Deed::ReadAll(_) | Deed::Sync(..) | Deed::SyncNames(_) => Ok(()),
-            Deed::Append(name, bytes, came) => self.push(*name, front(bytes, *came)),
-            Deed::Cut(name, length, done) => {
-                if *done {
-                    self.cut(*name, *length);
-                }
-                Ok(())
-            }
-            Deed::Create(name, done) => {
-                if *done {
-                    self.set(*name, Blob::new(alloc));
-                }
-                Ok(())
-            }
-            Deed::Rename(from, to, done) => {
-                if *done {
-                    self.rename(*from, *to);
-                }
-                Ok(())
-            }
+        match deed.came {
+            Came::Done => self.make(alloc, &deed.asked),
+            Came::Undone => Ok(()),
+            Came::Front(count) => self.make_front(alloc, &deed.asked, count),
+        }
+    }
+
+    // Does a call.
+    fn make(&mut self, alloc: Global, asked: &Asked) -> Result<(), NoMemory>
+        ensures ok { OnOk result (self.new ≡ effect (call_of asked.now) self.old) }
+        ensures err { OnErr result (self.new ≡ self.old) }
+    {
+        match asked {
+            Asked::ReadAll(_) | Asked::Sync(_) | Asked::SyncNames => {}
+            Asked::Append(name, bytes) => self.push(*name, bytes.as_slice())?,
+            Asked::Cut(name, length) => self.cut(*name, *length),
+            Asked::Create(name) => self.put(*name, Some(Blob::new(alloc))),
+            Asked::Rename(from, to) => self.rename(*from, *to),
+        }
+        Ok(())
+    }
+
+    // Does a call, and of an append the first bytes alone, so many.
+    fn make_front(&mut self, alloc: Global, asked: &Asked, count: usize) -> Result<(), NoMemory>
+        ensures ok { OnOk result (self.new ≡ effect (front_of count (call_of asked.now)) self.old) }
+        ensures err { OnErr result (self.new ≡ self.old) }
+    {
+        match asked {
+            Asked::Append(name, bytes) => self.push(*name, front(bytes, count)),
+            other => self.make(alloc, other),
         }
     }
 

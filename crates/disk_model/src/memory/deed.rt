@@ -1,33 +1,65 @@
 //! A call of a directory in memory, as it is recorded.
 
 ghost use Rattle.std.specs.Prelude.{◌≡◌, take};
+ghost use Rattle.disk_model.specs.Memory.{failure};
+ghost use Rattle.disk_model.specs.inner.Recorded.{call_of, outcome_of};
 
 use crate::FileName;
 use core_types::Blob;
 
-/// A call that was made, and what came of it. A call that did not happen changed nothing.
+/// A call that was made, and what came of it.
 #[derive(Debug, Drop)]
-pub(crate) enum Deed {
+pub(crate) struct Deed {
+    pub(crate) asked: Asked,
+    pub(crate) came: Came,
+}
+
+/// A call, as it was asked for.
+#[derive(Debug, Drop)]
+pub(crate) enum Asked {
     /// A read of a file.
     ReadAll(FileName),
-    /// Bytes were to be added to a file, and the first so many were.
-    Append(FileName, Blob, usize),
-    /// A file was to be cut to a length, and was or not.
-    Cut(FileName, u64, bool),
-    /// A file was to be made safe, and was or not.
-    Sync(FileName, bool),
-    /// A name was to get a new file, and did or not.
-    Create(FileName, bool),
-    /// A file was to move from the first name to the second, and did or not.
-    Rename(FileName, FileName, bool),
-    /// The names were to be made safe, and were or not.
-    SyncNames(bool),
+    /// Bytes were to be added to a file.
+    Append(FileName, Blob),
+    /// A file was to be cut to a length.
+    Cut(FileName, u64),
+    /// A file was to be made safe.
+    Sync(FileName),
+    /// A name was to get a new file.
+    Create(FileName),
+    /// A file was to move from the first name to the second.
+    Rename(FileName, FileName),
+    /// The names were to be made safe.
+    SyncNames,
+}
+
+/// What came of a call.
+#[derive(Clone, Copy, Debug)]
+pub(crate) enum Came {
+    /// It was done.
+    Done,
+    /// It failed, and changed nothing.
+    Undone,
+    /// It was an append and failed, and the first bytes came, so many.
+    Front(usize),
+}
+
+impl Asked {
+    /// How the call fails: half of an append comes, and nothing of another.
+    pub(crate) fn failure(&self) -> Came
+        ensures failure { outcome_of result ≡ failure (call_of self.now) }
+    {
+        match self {
+            Asked::Append(_, bytes) => Came::Front(bytes.len() / 2),
+            _ => Came::Undone,
+        }
+    }
 }
 
 /// The first bytes, so many, or all of them.
-pub(crate) fn front(bytes: &Blob, came: usize) -> &[u8]
-    ensures front { result.now ≡ take came bytes.now }
+pub(crate) fn front(bytes: &Blob, count: usize) -> &[u8]
+    ensures front { result.now ≡ take count bytes.now }
 {
     let bytes = bytes.as_slice();
-    &bytes[..came.min(bytes.len())]
+    &bytes[..count.min(bytes.len())]
 }

@@ -1,17 +1,17 @@
 //! A disk, for what a crash leaves of it.
 
-ghost use Rattle.std.specs.Prelude.{◌≡◌, ℕ, List, Option, Some, take, slice_get, IfOk, OnOk};
+ghost use Rattle.std.specs.Prelude.{◌≡◌, ℕ, Option, Some, take, map, slice_get, IfOk, OnOk};
 ghost use Rattle.std.specs.Option.{option_map, option_and_then, option_copied};
 ghost use Rattle.disk_model.specs.Choices.{after_steps, chosen_of};
-ghost use Rattle.disk_model.specs.Copied.{after_deeds};
-ghost use Rattle.disk_model.specs.Disk.{after_renames, names_now, number_of, settled, settled_disk, settled_or_empty, with_change, with_changed, made_safe, on_file, created, moved, names_synced, Change as Spoken};
-ghost use Rattle.disk_model.specs.History.{change_of};
+ghost use Rattle.disk_model.specs.Disk.{after_renames, names_now, number_of, settled, settled_disk, settled_or_empty, with_change, with_changed, made_safe, on_file, appended, created, moved, names_synced, Change as Spoken};
+ghost use Rattle.disk_model.specs.Past.{done, front_of, left_by, after};
+ghost use Rattle.disk_model.specs.inner.Recorded.{call_of, outcome_of, made_of};
 
 mod names;
 mod stored;
 
 use super::contents::Contents;
-use super::deed::{Deed, front};
+use super::deed::{Asked, Came, Deed, front};
 use crate::{Choice, FileName};
 use core_types::{Blob, NoMemory};
 use names::{NameChange, Names};
@@ -73,43 +73,47 @@ impl Disk {
 
     /// Does what came of a call.
     pub(crate) fn replay(&mut self, alloc: Global, deed: &Deed) -> Result<(), NoMemory>
-        ensures changed { OnOk result (self.new ≡ change_of deed.now self.old) }
+        ensures changed { OnOk result
+            (self.new ≡ left_by (call_of deed.now.asked) (outcome_of deed.now.came) self.old) }
     {
-        match deed {
-            Deed::ReadAll(_) => Ok(()),
-            Deed::Append(name, bytes, came) => {
-                let came = Blob::from_slice(alloc, front(bytes, *came))?;
-                self.change(*name, Change::added(came))
-            }
-            Deed::Cut(name, length, done) => {
-                if *done {
-                    self.change(*name, Change::cut_to(*length))
-                } else {
-                    Ok(())
-                }
-            }
-            Deed::Sync(name, done) => { if *done { self.sync(*name) } else { Ok(()) } }
-            Deed::Create(name, done) => {
-                if *done {
-                    self.create(alloc, *name)
-                } else {
-                    Ok(())
-                }
-            }
-            Deed::Rename(from, to, done) => {
-                if *done {
-                    self.rename(*from, *to)
-                } else {
-                    Ok(())
-                }
-            }
-            Deed::SyncNames(done) => {
-                if *done {
-                    self.sync_names();
-                }
-                Ok(())
-            }
+        match deed.came {
+            Came::Done => self.make(alloc, &deed.asked),
+            Came::Undone => Ok(()),
+            Came::Front(count) => self.make_front(alloc, &deed.asked, count),
         }
+    }
+
+    // Does a call.
+    fn make(&mut self, alloc: Global, asked: &Asked) -> Result<(), NoMemory>
+        ensures changed { OnOk result (self.new ≡ done (call_of asked.now) self.old) }
+    {
+        match asked {
+            Asked::ReadAll(_) => {}
+            Asked::Append(name, bytes) => self.append(alloc, *name, bytes.as_slice())?,
+            Asked::Cut(name, length) => self.change(*name, Change::cut_to(*length))?,
+            Asked::Sync(name) => self.sync(*name)?,
+            Asked::Create(name) => self.create(alloc, *name)?,
+            Asked::Rename(from, to) => self.rename(*from, *to)?,
+            Asked::SyncNames => self.sync_names(),
+        }
+        Ok(())
+    }
+
+    // Does a call, and of an append the first bytes alone, so many.
+    fn make_front(&mut self, alloc: Global, asked: &Asked, count: usize) -> Result<(), NoMemory>
+        ensures changed { OnOk result (self.new ≡ done (front_of count (call_of asked.now)) self.old) }
+    {
+        match asked {
+            Asked::Append(name, bytes) => self.append(alloc, *name, front(bytes, count)),
+            other => self.make(alloc, other),
+        }
+    }
+
+    // Adds bytes at the end of a name's file.
+    fn append(&mut self, alloc: Global, name: FileName, bytes: &[u8]) -> Result<(), NoMemory>
+        ensures appended { OnOk result (self.new ≡ appended name bytes.now self.old) }
+    {
+        self.change(name, Change::added(Blob::from_slice(alloc, bytes)?))
     }
 
     // Changes the file of a name.
@@ -236,7 +240,7 @@ fn make_file_safe(files: &mut Vec<Stored>, number: Option<usize>) -> Result<(), 
 
 /// Does what came of each call, in order.
 pub(crate) fn replay_all(disk: &mut Disk, alloc: Global, deeds: &[Deed]) -> Result<(), NoMemory>
-    ensures changed { OnOk result (disk.new ≡ after_deeds disk.old deeds.now) }
+    ensures changed { OnOk result (disk.new ≡ after disk.old (map made_of deeds.now)) }
 {
     for deed in deeds {
         disk.replay(alloc, deed)?;

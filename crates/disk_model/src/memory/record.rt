@@ -1,10 +1,11 @@
 //! The files of a directory in memory, and each call that was made on it.
 
-ghost use Rattle.std.specs.Prelude.{◌≡◌, IfOk, OnOk, OnErr};
+ghost use Rattle.std.specs.Prelude.{◌≡◌, [], ◌∷◌, IfOk, OnOk, OnErr};
 ghost use Rattle.std.specs.Option.{option_copied};
 ghost use Rattle.disk_model.specs.Files.{file, HasFew};
-ghost use Rattle.disk_model.specs.History.{call_of, change_of, effect_of, begun, with_deed, past_of, files_of};
-ghost use Rattle.disk_model.specs.Past.{disk_at, with_call};
+ghost use Rattle.disk_model.specs.Memory.{begun};
+ghost use Rattle.disk_model.specs.Past.{disk_at, files_now, with_calls};
+ghost use Rattle.disk_model.specs.inner.Recorded.{call_of, outcome_of, made_of, effect_so};
 ghost use Rattle.disk_model.specs.declared.file_name.FileName.{FileName};
 
 use super::contents::Contents;
@@ -24,21 +25,22 @@ pub(crate) struct Record {
 }
 
 impl Model for Record {
-    ghost use Rattle.std.specs.Prelude.{◌≡◌};
-    ghost use Rattle.disk_model.specs.History.{History, files_of};
+    ghost use Rattle.std.specs.Prelude.{◌≡◌, map};
+    ghost use Rattle.disk_model.specs.Past.{Past, files_now};
+    ghost use Rattle.disk_model.specs.inner.Recorded.{made_of};
 
-    ghost Value = { History };
+    ghost Value = { Past };
 
-    ghost view = { λ r. record { began = r.began; deeds = r.deeds.items } };
+    ghost view = { λ r. record { began = r.began; made = map made_of r.deeds.items } };
 
-    ghost invariant = { λ r. r.files ≡ files_of (record { began = r.began; deeds = r.deeds.items }) };
+    ghost invariant = { λ r. r.files ≡ files_now (record { began = r.began; made = map made_of r.deeds.items }) };
 }
 
 impl Record {
     /// These files, all of them synced, and no call yet.
     pub(crate) fn new(alloc: Global, files: Contents) -> Result<Record, NoMemory>
         ensures begun { IfOk result (λ made. made ≡ begun files) }
-        ensures files { IfOk result (λ made. files_of made ≡ files) }
+        ensures files { IfOk result (λ made. files_now made ≡ files) }
     {
         Ok(Record {
             began: files.copy(alloc)?,
@@ -49,14 +51,14 @@ impl Record {
 
     /// The bytes of a file, or `None` where it is not there.
     pub(crate) fn get(&self, name: FileName) -> Option<&Blob>
-        ensures bytes { option_copied result ≡ file name (files_of self.now) }
+        ensures bytes { option_copied result ≡ file name (files_now self.now) }
     {
         self.files.get(name)
     }
 
     /// The files as they read.
     pub(crate) fn into_files(self) -> Contents
-        ensures files { result ≡ files_of self }
+        ensures files { result ≡ files_now self }
     {
         let Record {
             began: _,
@@ -66,12 +68,9 @@ impl Record {
         files
     }
 
-    /// Makes a call and records it. Where it finds no memory it does nothing.
+    /// Does what came of a call, and records it. Where it finds no memory it does nothing.
     pub(crate) fn make(&mut self, alloc: Global, deed: Deed) -> Result<(), NoMemory>
-        ensures ok { OnOk result (self.new ≡ with_deed deed self.old) }
-        ensures files { OnOk result (files_of self.new ≡ effect_of deed (files_of self.old)) }
-        ensures past { OnOk result
-            (past_of self.new ≡ with_call (call_of deed) (change_of deed) (past_of self.old)) }
+        ensures ok { OnOk result (self.new ≡ with_calls (made_of deed ∷ []) self.old) }
         ensures err { OnErr result (self.new ≡ self.old) }
     {
         self.deeds.reserve(1)?;
@@ -83,7 +82,7 @@ impl Record {
 
     /// The disk at a moment, or the last one.
     pub(crate) fn disk_at(&self, alloc: Global, moment: usize) -> Result<Disk, NoMemory>
-        ensures disk { IfOk result (λ disk. disk ≡ disk_at (past_of self.now) moment) }
+        ensures disk { IfOk result (λ disk. disk ≡ disk_at self.now moment) }
     {
         let mut disk = Disk::settled(alloc, &self.began)?;
         let made = moment.min(self.deeds.len());
@@ -93,7 +92,7 @@ impl Record {
 
     /// No file has more bytes than 64 bits count.
     pub(crate) fn is_small(&self)
-        ensures small { (name : FileName) → HasFew (file name (files_of self.now)) }
+        ensures small { (name : FileName) → HasFew (file name (files_now self.now)) }
     {
         self.files.is_small();
     }

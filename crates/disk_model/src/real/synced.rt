@@ -1,7 +1,7 @@
 //! Whether a sync is owed.
 
 ghost use Rattle.std.specs.Prelude.{◌≡◌, if◌then◌else◌, is_ok};
-ghost use Rattle.disk_model.specs.Synced.{after_change, either_of};
+ghost use Rattle.disk_model.specs.inner.Synced.{after_change, either_of};
 
 use std::io;
 

@@ -41,7 +41,7 @@ enum WhatChanged {
 
 impl Model for NameChange {
     ghost use Rattle.disk_model.specs.Disk.{NameChange};
-    ghost use Rattle.disk_model.specs.Copied.{name_change_of};
+    ghost use Rattle.disk_model.specs.inner.Copied.{name_change_of};
 
     ghost Value = { NameChange };
 

@@ -24,7 +24,7 @@ enum WhatChanged {
 
 impl Model for Change {
     ghost use Rattle.disk_model.specs.Disk.{Change};
-    ghost use Rattle.disk_model.specs.Copied.{change_told};
+    ghost use Rattle.disk_model.specs.inner.Copied.{change_told};
 
     ghost Value = { Change };
 

@@ -1,4 +1,4 @@
-use Rattle.std.proofs.Common.{arith}
+use Rattle.std.proofs.Common.{◌∙◌, arith}
 use Rattle.modhost.proofs.HandedOn.{sent_more}
 use Rattle.modhost.proofs.pipe.put_all.Goals as goal
 
@@ -6,5 +6,5 @@ pub loop-done-preserved : goal.loop-done-preserved
 loop-done-preserved g c = record {
   within = omega (arith, c.in_ok-done.ensures.bound, c.split_at.ensures.back_len);
   sent = sent_more _ _ _ _ _ _ _ c.split_at.ensures.back c.loop-done.invariant.sent c.in_ok-done.ensures.bytes;
-  later = omega (arith, c.put.ensures.cause.later, c.loop-done.invariant.later);
+  kept = c.in_ok-done.ensures.cause.kept ∙ c.loop-done.invariant.kept;
 }

@@ -3,6 +3,7 @@ use Rattle.std.specs.Io.KnownBytes.{Consumes}
 use Rattle.std.proofs.KnownBytes.{Keeps-refl}
 use Rattle.std.proofs.lemmas.List.{length-take-le}
 use Rattle.std.proofs.lemmas.Result.{err_from_is_err_and, on_ok_weaker, IfErr-weaker}
+use Rattle.disk_model.specs.Told.{files_told}
 use Rattle.modhost.proofs.Fed.{told_log, starts, fed_more}
 use Rattle.modhost.proofs.Served.{Serving, quits_now, goes_on}
 use Rattle.modhost.proofs.Taken.{behind, comes, shorter, waits_on, refused_at}
@@ -13,9 +14,9 @@ use Rattle.modhost.proofs.pipe.serve_source.Goals as goal
 pub serving-init : goal.serving-init
 serving-init g c = record {
   progress = starts _ _ _ _ _ refl c.new-reader.ensures.passed c.new-reader.ensures.rest (told_log _ c.requires.log);
-  dir = omega arith;
-  source = omega arith;
-  sink = omega arith;
+  dir = refl;
+  source = refl;
+  sink = refl;
 }
 
 pub serving-preserved : goal.serving-preserved
@@ -28,7 +29,7 @@ serving-preserved g c =
           (waits_on _ _ w _ _ _ _ _ _ _ _ i.progress) e.bytes c.feed.ensures.passed c.in_ok-feed-in-More.ensures.ok
           (length-take-le c.in_ok-count-in-More.count c.next_piece.new.buffer e.bound) e.within;
       dir = i.dir;
-      source = omega (arith, i.source, c.next_piece.ensures.later);
+      source = e.kept ∙ i.source;
       sink = i.sink;
     }
 
@@ -60,7 +61,7 @@ pub returns-then-quits-clause-all : goal.returns-then-quits-clause-all
 returns-then-quits-clause-all g c =
     let e = c.in_ok-answer-in-Request.ensures in
     let t = c.in_ok-words.ensures.request c.in-Request.words (ap Ok c.in-Request.is) in
-    let s : Serving c.serving.host.keys c.answer.new.host.keys c.in-Request.words (g.K.Sink.got c.serving.sink) (g.K.Sink.got c.answer.new.sink) (g.D.Dir.files c.serving.host.dir) (g.D.Dir.files c.answer.new.host.dir)
+    let s : Serving c.serving.host.keys c.answer.new.host.keys c.in-Request.words (g.K.Sink.got c.serving.sink) (g.K.Sink.got c.answer.new.sink) (files_told (g.D.Dir.told c.serving.host.dir)) (files_told (g.D.Dir.told c.answer.new.host.dir))
     = record { keys = e.keys; reply = e.sent; logged = e.logged } in
     quits_now _ _ _ _ _ _ _ _ _ _ _ _ _ _ _ (comes _ _ _ t _ _ _ _ _ _ _ _ c.serving.invariant.progress) t.spells (behind _ _ _ t) s (sym c.is_quit-quits.ensures ∙ c.if-quits.true)
 
@@ -69,13 +70,13 @@ serving-preserved-else-quits g c =
     let i = c.serving.invariant in
     let e = c.in_ok-answer-in-Request.ensures in
     let t = c.in_ok-words.ensures.request c.in-Request.words (ap Ok c.in-Request.is) in
-    let s : Serving c.serving.host.keys c.answer.new.host.keys c.in-Request.words (g.K.Sink.got c.serving.sink) (g.K.Sink.got c.answer.new.sink) (g.D.Dir.files c.serving.host.dir) (g.D.Dir.files c.answer.new.host.dir)
+    let s : Serving c.serving.host.keys c.answer.new.host.keys c.in-Request.words (g.K.Sink.got c.serving.sink) (g.K.Sink.got c.answer.new.sink) (files_told (g.D.Dir.told c.serving.host.dir)) (files_told (g.D.Dir.told c.answer.new.host.dir))
     = record { keys = e.keys; reply = e.sent; logged = e.logged } in
     record {
       progress = goes_on _ _ _ _ _ _ _ _ _ _ _ _ _ _ _ (comes _ _ _ t _ _ _ _ _ _ _ _ i.progress) t.spells (behind _ _ _ t) s (sym c.is_quit-quits.ensures ∙ c.if-quits.false);
-      dir = omega (arith, i.dir, c.answer.ensures.dir_later);
+      dir = e.dir_kept ∙ i.dir;
       source = i.source;
-      sink = omega (arith, i.sink, c.answer.ensures.sink_later);
+      sink = e.sink_kept ∙ i.sink;
     }
 
 pub returns-in_err-count-in-More-clause-stop : goal.returns-in_err-count-in-More-clause-stop

@@ -1,11 +1,37 @@
-use Rattle.std.proofs.lemmas.Result.{IfErr-weaker}
-use Rattle.restart.proofs.Begun.{stops_within}
+use Rattle.std.proofs.lemmas.Result.{err_from_is_err_and}
+use Rattle.restart.proofs.OpenLogs.{has_opened, partly, there_still, unopened_stops, crash_reading, crash_further}
 use Rattle.restart.proofs.opening.open_log.Goals as goal
 
-pub returns-in-Some-clause-stop : goal.returns-in-Some-clause-stop
-returns-in-Some-clause-stop g c =
-    IfErr-weaker c.open_found.result _ _ (λ stop. stops_within g.R.Replayer.meaning stop _ _ _ _ _ _ c.read_all.ensures.cause.later c.read_all.ensures.same) c.open_found.ensures.stop
+pub returns-in_err-found-clause-stop : goal.returns-in_err-found-clause-stop
+returns-in_err-found-clause-stop g c =
+    let p = err_from_is_err_and c.from_residual.result c.from_residual.ensures.1 in
+    rw (p.1, p.2) (unopened_stops g.R.Replayer.meaning c.in_err-found.field-0.0 (g.D.Dir.told c.args.dir.now) (g.D.Dir.told c.find.new.dir) c.in_err-found.ensures.stop c.find.ensures.same)
 
-pub returns-in-None-clause-stop : goal.returns-in-None-clause-stop
-returns-in-None-clause-stop g c =
-    IfErr-weaker c.begin_log.result _ _ (λ stop. stops_within g.R.Replayer.meaning stop _ _ _ _ _ _ c.read_all.ensures.cause.later c.read_all.ensures.same) c.begin_log.ensures.stop
+pub returns-in_err-found-clause-crash : goal.returns-in_err-found-clause-crash
+returns-in_err-found-clause-crash g c = crash_reading g.R.Replayer.meaning (g.D.Dir.told c.args.dir.now) (g.D.Dir.told c.find.new.dir) c.find.ensures.same
+
+pub make_safe-requires : goal.make_safe-requires
+make_safe-requires g c = record {
+  there = there_still g.R.Replayer.meaning c.in_ok-found.found (g.R.Replayer.keys c.find.new.replayer) (g.D.Dir.told c.args.dir.now) (g.D.Dir.told c.find.new.dir) c.in_ok-found.ensures.there c.in_ok-found.ensures.keys c.find.ensures.same;
+}
+
+pub returns-in_err-make_safe-clause-stop : goal.returns-in_err-make_safe-clause-stop
+returns-in_err-make_safe-clause-stop g c =
+    let p = err_from_is_err_and c.from_residual-in_err-make_safe.result c.from_residual-in_err-make_safe.ensures.1 in
+    rw (p.1, p.2) (partly g.R.Replayer.meaning c.in_ok-found.found (g.R.Replayer.keys c.find.new.replayer) (g.D.Dir.told c.args.dir.now) (g.D.Dir.told c.find.new.dir) c.in_ok-found.ensures.there c.in_ok-found.ensures.keys c.find.ensures.same (g.D.Dir.told c.make_safe.new.dir) c.in_err-make_safe.ensures.err)
+
+pub returns-in_err-make_safe-clause-crash : goal.returns-in_err-make_safe-clause-crash
+returns-in_err-make_safe-clause-crash g c =
+    let old = g.D.Dir.told c.args.dir.now in
+    let read = g.D.Dir.told c.find.new.dir in
+    crash_further g.R.Replayer.meaning old read (g.D.Dir.told c.make_safe.new.dir) (crash_reading g.R.Replayer.meaning old read c.find.ensures.same) (c.make_safe.ensures.crash g.R.Replayer.meaning (g.R.Replayer.keys c.find.new.replayer) c.in_ok-found.ensures.keys)
+
+pub returns-clause-opened : goal.returns-clause-opened
+returns-clause-opened g c =
+    rw c.opened.ensures.opened (has_opened g.R.Replayer.meaning c.in_ok-found.found (g.R.Replayer.keys c.find.new.replayer) (g.D.Dir.told c.args.dir.now) (g.D.Dir.told c.find.new.dir) c.in_ok-found.ensures.there c.in_ok-found.ensures.keys c.find.ensures.same (g.D.Dir.told c.make_safe.new.dir) c.in_ok-make_safe.ensures.ok c.in_ok-make_safe.ensures.safe)
+
+pub returns-clause-crash : goal.returns-clause-crash
+returns-clause-crash g c =
+    let old = g.D.Dir.told c.args.dir.now in
+    let read = g.D.Dir.told c.find.new.dir in
+    crash_further g.R.Replayer.meaning old read (g.D.Dir.told c.make_safe.new.dir) (crash_reading g.R.Replayer.meaning old read c.find.ensures.same) (c.make_safe.ensures.crash g.R.Replayer.meaning (g.R.Replayer.keys c.find.new.replayer) c.in_ok-found.ensures.keys)

@@ -1,11 +1,11 @@
 use Rattle.std.proofs.Common.{refl, ap, Ok}
 use Rattle.std.proofs.lemmas.Result.{err_from_is_err_and}
-use Rattle.restart.proofs.Units.{requests_of_unit, goes_on, shorter, stops_in, breaks}
+use Rattle.restart.proofs.Units.{unit_replayable, goes_on, shorter, stops_in, breaks}
 use Rattle.restart.proofs.replaying.replay_log.Goals as goal
 
 pub replay_unit-requires-clause-each : goal.replay_unit-requires-clause-each
 replay_unit-requires-clause-each g c =
-    requests_of_unit _ _ _ (c.in_ok-effects.ensures.unit c.in-Unit.effects (ap Ok c.in-Unit.is))
+    unit_replayable _ _ _ (c.in_ok-effects.ensures.unit c.in-Unit.effects (ap Ok c.in-Unit.is))
 
 pub replay_unit-requires-clause-starts : goal.replay_unit-requires-clause-starts
 replay_unit-requires-clause-starts g c =

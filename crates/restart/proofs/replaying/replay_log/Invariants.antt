@@ -1,6 +1,6 @@
 use Rattle.std.proofs.Common.{length}
 use Rattle.effect_log.specs.Reading.{ahead}
-use Rattle.restart.specs.Progress.{Progress}
+use Rattle.restart.specs.inner.Progress.{Progress}
 use Rattle.restart.proofs.replaying.replay_log.Given as goal
 
 abbrev pub invariant-loop-reader : goal.invariant-loop-reader

@@ -1,6 +1,6 @@
 use Rattle.std.proofs.Common.{length}
 use Rattle.resp_codec.specs.Stream.{SkipsOnly}
-use Rattle.resp_codec.specs.Reading.{seen}
+use Rattle.resp_codec.specs.inner.Reading.{seen}
 use Rattle.resp_codec.proofs.reading.Reading.next.Given as goal
 
 abbrev pub invariant-loop-words : goal.invariant-loop-words

@@ -1,6 +1,6 @@
 -- A record that begins has the files that it begins with.
 use Rattle.std.proofs.Common.{sym}
-use Rattle.disk_model.specs.SoundPast.{files_at_first}
+use Rattle.disk_model.proofs.Past.{files_at_first}
 use Rattle.disk_model.proofs.memory.record.Record.new.Goals as goal
 
 pub invariant_of-result : goal.invariant_of-result

@@ -1,0 +1,16 @@
+-- serves clauses `left` and `count` of ListBody::remove_last
+use Rattle.std.proofs.Common.{◌≡◌, ◌+◌, ◌-◌, ◌≤◌, ◌++◌, take, drop, reverse}
+use Rattle.std.specs.VecDeque.{deque_len}
+use Rattle.core_types.specs.Equal.{without_first}
+use Rattle.core_types.proofs.list_body.remove_last.Given as goal
+
+-- what stays so far, and what will stay of the rest, make the result
+abbrev pub invariant-loop-more : goal.invariant-loop-more
+invariant-loop-more l =
+    (drop l.more (reverse l.items.items) ++ without_first (l.most - l.removed) l.item (take l.more (reverse l.items.items)) ≡ without_first l.most l.item (reverse l.fn.items.items))
+    × (l.removed + deque_len l.items ≡ deque_len l.fn.items)
+    × (l.removed ≤ l.most)
+    × (l.more ≤ deque_len l.items)
+
+abbrev pub decreases-loop-more : goal.decreases-loop-more
+decreases-loop-more l = l.more

@@ -1,0 +1,104 @@
+//! Makes what was found an open log that is safe from a crash.
+
+ghost use Rattle.std.specs.Prelude.{◌≡◌, ◌⊎◌, ◌≤◌, [], length, take, None, Some, IfSome, OnOk, OnErr};
+ghost use Rattle.core_types.specs.Causes.{HasCause};
+ghost use Rattle.core_types.specs.Keys.{Keys};
+ghost use Rattle.disk_model.specs.Files.{with_file, Become, Stay};
+ghost use Rattle.disk_model.specs.Past.{Call};
+ghost use Rattle.disk_model.specs.Told.{Now, Was, files_told, disk_told};
+ghost use Rattle.disk_model.specs.Runs.{LeavesOnly};
+ghost use Rattle.disk_model.specs.Safe.{IsSynced, IsSafe};
+ghost use Rattle.effect_log.specs.Replay.{Meaning, Holds};
+ghost use Rattle.restart.specs.Restart.{RestartsAsLeft};
+ghost use Rattle.restart.specs.inner.Finding.{IsThereAs, StandsFor, log_of};
+
+use crate::finding::Found;
+use disk_model::{Dir, DirFault, FileName};
+
+/// Makes what was found an open log, and safe.
+pub(crate) fn make_safe<D: Dir>(dir: &mut D, found: &Found) -> Result<(), DirFault>
+    requires there { IsThereAs found.now (files_told (D.told dir.old)) }
+    ensures ok { OnOk result (Become (with_file FileName.Log (log_of found.now))
+        (files_told (D.told dir.old)) (files_told (D.told dir.new))) }
+    ensures err { OnErr result (Stay (files_told (D.told dir.old)) (files_told (D.told dir.new))
+        ⊎ Become (with_file FileName.Log (log_of found.now))
+        (files_told (D.told dir.old)) (files_told (D.told dir.new))) }
+    ensures safe { OnOk result (Now (IsSafe FileName.Log (log_of found.now)) (D.told dir.new)) }
+    ensures crash { (replay : Meaning) (keys : Keys) → StandsFor replay found.now keys → LeavesOnly
+        (D.told dir.old) (D.told dir.new) (RestartsAsLeft replay (disk_told (D.told dir.old))) }
+    ensures cause { HasCause (D.told dir.old).faults (D.told dir.new).faults result }
+{
+    match found {
+        Found::Log(bytes, kept) => keep_log(dir, bytes.as_slice(), *kept),
+        Found::Nothing => begin_log(dir),
+    }
+}
+
+// Makes a log of these bytes safe, cuts it to the first of them, so many, and makes that and the names safe.
+fn keep_log<D: Dir>(dir: &mut D, bytes: &[u8], kept: u64) -> Result<(), DirFault>
+    requires there { IfSome (files_told (D.told dir.old)) (λ known. known.log ≡ Some bytes.now) }
+    requires within { kept ≤ length bytes.now }
+    ensures ok { OnOk result (Become (with_file FileName.Log (take kept bytes.now))
+        (files_told (D.told dir.old)) (files_told (D.told dir.new))) }
+    ensures err { OnErr result (Stay (files_told (D.told dir.old)) (files_told (D.told dir.new))
+        ⊎ Become (with_file FileName.Log (take kept bytes.now))
+        (files_told (D.told dir.old)) (files_told (D.told dir.new))) }
+    ensures safe { OnOk result (Now (IsSafe FileName.Log (take kept bytes.now)) (D.told dir.new)) }
+    ensures crash { (replay : Meaning) (keys : Keys) → Holds replay bytes.now keys kept → LeavesOnly
+        (D.told dir.old) (D.told dir.new) (RestartsAsLeft replay (disk_told (D.told dir.old))) }
+    ensures cause { HasCause (D.told dir.old).faults (D.told dir.new).faults result }
+{
+    sync_log(dir, bytes)?;
+    cut_tail(dir, bytes, kept)?;
+    dir.sync_names()
+}
+
+// Makes the bytes of the log safe, which are these.
+#[tactic(auto, using(crate::proofs::KeptLogs::sync_was))]
+fn sync_log<D: Dir>(dir: &mut D, bytes: &[u8]) -> Result<(), DirFault>
+    requires there { IfSome (files_told (D.told dir.old)) (λ known. known.log ≡ Some bytes.now) }
+    ensures same { Stay (files_told (D.told dir.old)) (files_told (D.told dir.new)) }
+    ensures synced { OnOk result (Now (IsSynced FileName.Log bytes.now) (D.told dir.new)) }
+    ensures was { Was (Call.Sync FileName.Log) (D.told dir.old) (D.told dir.new) }
+    ensures cause { HasCause (D.told dir.old).faults (D.told dir.new).faults result }
+{
+    dir.sync(FileName::Log)
+}
+
+// Cuts a log of these synced bytes to the first of them, so many, and makes that safe.
+fn cut_tail<D: Dir>(dir: &mut D, bytes: &[u8], kept: u64) -> Result<(), DirFault>
+    requires there { IfSome (files_told (D.told dir.old)) (λ known. known.log ≡ Some bytes.now) }
+    requires synced { Now (IsSynced FileName.Log bytes.now) (D.told dir.old) }
+    requires within { kept ≤ length bytes.now }
+    ensures ok { OnOk result (Become (with_file FileName.Log (take kept bytes.now))
+        (files_told (D.told dir.old)) (files_told (D.told dir.new))) }
+    ensures err { OnErr result (Stay (files_told (D.told dir.old)) (files_told (D.told dir.new))
+        ⊎ Become (with_file FileName.Log (take kept bytes.now))
+        (files_told (D.told dir.old)) (files_told (D.told dir.new))) }
+    ensures synced { OnOk result (Now (IsSynced FileName.Log (take kept bytes.now)) (D.told dir.new)) }
+    ensures crash { (replay : Meaning) (keys : Keys) → Holds replay bytes.now keys kept → LeavesOnly
+        (D.told dir.old) (D.told dir.new) (RestartsAsLeft replay (disk_told (D.told dir.old))) }
+    ensures cause { HasCause (D.told dir.old).faults (D.told dir.new).faults result }
+{
+    if kept == bytes.len() as u64 {
+        return Ok(());
+    }
+    dir.cut(FileName::Log, kept)?;
+    sync_log(dir, &bytes[..kept as usize])
+}
+
+// Begins a log where there is neither a log nor a dump.
+fn begin_log<D: Dir>(dir: &mut D) -> Result<(), DirFault>
+    requires none { IfSome (files_told (D.told dir.old)) (λ known. (known.log ≡ None) × (known.dump ≡ None)) }
+    ensures ok { OnOk result (Become (with_file FileName.Log [])
+        (files_told (D.told dir.old)) (files_told (D.told dir.new))) }
+    ensures err { OnErr result (Stay (files_told (D.told dir.old)) (files_told (D.told dir.new))
+        ⊎ Become (with_file FileName.Log []) (files_told (D.told dir.old)) (files_told (D.told dir.new))) }
+    ensures safe { OnOk result (Now (IsSafe FileName.Log []) (D.told dir.new)) }
+    ensures crash { (replay : Meaning) → LeavesOnly
+        (D.told dir.old) (D.told dir.new) (RestartsAsLeft replay (disk_told (D.told dir.old))) }
+    ensures cause { HasCause (D.told dir.old).faults (D.told dir.new).faults result }
+{
+    dir.create(FileName::Log)?;
+    dir.sync_names()
+}
