@@ -1,0 +1,10 @@
+pub mod Entries
+pub mod Dues
+pub mod Once
+pub mod Shown
+pub mod Agree
+pub mod Keeps
+pub mod Listed
+pub mod Found
+pub mod Places
+pub mod Indexes
