@@ -1,0 +1,3 @@
+pub mod Outbox
+pub mod Entry
+pub mod Watching
