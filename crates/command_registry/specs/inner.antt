@@ -1,0 +1,2 @@
+-- What the invariant cites.
+pub mod Sorted
