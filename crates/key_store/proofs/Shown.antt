@@ -1,0 +1,44 @@
+-- The entries of the table as they are shown. Serves the clauses of `iter`, `pop_first` and `next_due`.
+use Rattle.std.proofs.Common.{◌≡◌, refl, sym, ap, ◌∙◌, arith, ℕ, List, [], ◌∷◌, map, Option, Some, None, slice_get}
+use Rattle.std.specs.Option.{option_map}
+use Rattle.std.specs.List.{cons_option}
+use Rattle.std.specs.FinMap as finite
+use Rattle.std.proofs.lemmas.Option.{slice_get-map}
+use Rattle.core_types.specs.declared.value.Value.{Value}
+use Rattle.core_types.specs.Keys.{Entry, KeysOf}
+use Rattle.key_store.specs.Listing.{listed}
+use Rattle.key_store.specs.NextDue.{Due, sooner, soonest}
+use Rattle.key_store.specs.inner.Sooner.{either}
+
+module _ {K N : Type 0} (read : K → List ℕ) where
+  abbrev pub shown : K × Entry N → List ℕ × Value N
+  shown p = (read p.0, p.1.value)
+
+  shown_twice : (es : List (K × Entry N)) → map shown es ≡ map (λ (e : List ℕ × Entry N). (e.0, e.1.value)) (map (λ (p : K × Entry N). (read p.0, p.1)) es)
+  shown_twice [] = refl
+  shown_twice (e ∷ es) = ap (λ rest. shown e ∷ rest) (shown_twice es)
+
+  pub all_shown : (es : List (K × Entry N)) (keys : KeysOf N) → map (λ (p : K × Entry N). (read p.0, p.1)) es ≡ finite.entries keys → map shown es ≡ listed keys
+  all_shown es keys is = shown_twice es ∙ ap (map (λ (e : List ℕ × Entry N). (e.0, e.1.value))) is
+
+  shown_once : (taken : Option (K × Entry N)) → option_map shown taken ≡ option_map (λ (e : List ℕ × Entry N). (e.0, e.1.value)) (option_map (λ (p : K × Entry N). (read p.0, p.1)) taken)
+  shown_once None = refl
+  shown_once (Some p) = refl
+
+  pub first_shown : (taken : Option (K × Entry N)) (keys : KeysOf N) → option_map (λ (p : K × Entry N). (read p.0, p.1)) taken ≡ slice_get (finite.entries keys) 0 → option_map shown taken ≡ slice_get (listed keys) 0
+  first_shown taken keys is =
+      shown_once taken ∙ ap (option_map (λ (e : List ℕ × Entry N). (e.0, e.1.value))) is
+      ∙ sym (slice_get-map (λ (e : List ℕ × Entry N). (e.0, e.1.value)) (finite.entries keys) 0)
+
+sooner_of_three : (x y z : Due) → sooner (sooner x (Some y)) (Some z) ≡ sooner x (Some (sooner y (Some z)))
+sooner_of_three x y z = grind arith
+
+pub either_of_three : (a b c : Option Due) → either (either a b) c ≡ either a (either b c)
+either_of_three None b c = refl
+either_of_three (Some x) None c = refl
+either_of_three (Some x) (Some y) None = refl
+either_of_three (Some x) (Some y) (Some z) = ap Some (sooner_of_three x y z)
+
+pub soonest-cons : (due : Option Due) (dues : List Due) → soonest (cons_option due dues) ≡ either due (soonest dues)
+soonest-cons None dues = refl
+soonest-cons (Some due) dues = refl

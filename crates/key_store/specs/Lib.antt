@@ -1,0 +1,5 @@
+pub mod Codes
+pub mod Lending
+pub mod Listing
+pub mod NextDue
+pub mod inner

@@ -1,0 +1,180 @@
+//! The store of keys.
+
+ghost use Rattle.std.specs.Prelude.{◌≡◌, ◌≢◌, None, map, slice_get, length, IsSome, IfOk, IfErr, OnOk, OnErr};
+ghost use Rattle.std.specs.Option.{option_copied, option_copied_mut, option_map, MatchOption};
+ghost use Rattle.std.specs.Borrow.{sem};
+ghost use Rattle.core_types.specs.Keys.{no_keys, value_at, deadline_at, with_value, with_deadline, without, renamed, key_count};
+ghost use Rattle.key_store.specs.Lending.{LendsValueOf};
+ghost use Rattle.key_store.specs.Listing.{listed};
+ghost use Rattle.key_store.specs.NextDue.{next_due};
+
+use crate::due::first_due;
+use crate::stored::Stored;
+use crate::table::Table;
+use crate::{Entries, PutBack};
+use core_types::{Blob, NoMemory, Value};
+use std::alloc::Global;
+use std::marker::Model;
+
+/// The keys, each with a value and with the moment at which it is due, where it has one.
+#[derive(Drop)]
+pub struct KeyStore<N> {
+    table: Table<N>,
+    alloc: Global,
+}
+
+impl<N> Model for KeyStore<N> {
+    ghost use Rattle.std.specs.FinMap.{code};
+    ghost use Rattle.core_types.specs.Keys.{KeysOf};
+    ghost use Rattle.key_store.specs.Codes.{bytes_code, entry_code};
+
+    ghost Value = { KeysOf N };
+
+    ghost coded = { code bytes_code (entry_code N.code) };
+
+    ghost view = { λ s. s.table };
+}
+
+impl<N> KeyStore<N> {
+    /// No keys. Takes no memory.
+    pub fn new(alloc: Global) -> KeyStore<N>
+        ensures empty { result ≡ no_keys }
+    {
+        KeyStore {
+            table: Table::new(alloc),
+            alloc,
+        }
+    }
+
+    /// Ends a store without keys, also where its values are of a type that is not dropped.
+    pub fn close(self)
+        requires empty { key_count self ≡ 0 }
+    {
+        let KeyStore { table, alloc: _ } = self;
+        table.close();
+    }
+
+    /// The value of a key, or `None` where the key is not there.
+    pub fn get(&self, key: &[u8]) -> Option<&Value<N>>
+        ensures value { option_copied result ≡ value_at self.now key.now }
+    {
+        match self.table.get(key) {
+            Some(stored) => Some(stored.value()),
+            None => None,
+        }
+    }
+
+    /// The value of a key, to be changed in its place, or `None` where the key is not there. The key keeps its
+    /// deadline.
+    pub fn get_mut(&mut self, key: &[u8]) -> Option<&mut Value<N>>
+        ensures* writes_back { sem 𝓛 (LendsValueOf N.row self.entry key.now result) }
+        ensures value { option_copied_mut result ≡ value_at self.old key.now }
+    {
+        match self.table.get_mut(key) {
+            Some(stored) => Some(stored.value_mut()),
+            None => None,
+        }
+    }
+
+    /// Takes a key out with its deadline, and gives its value, or `None` where the key is not there.
+    pub fn take(&mut self, key: &[u8]) -> Option<Value<N>>
+        ensures value { result ≡ value_at self.old key.now }
+        ensures taken { self.new ≡ without self.old key.now }
+    {
+        match self.table.remove(key) {
+            Some((_, stored)) => Some(stored.into_value()),
+            None => None,
+        }
+    }
+
+    /// Gives a key this value and no deadline, and gives back the value that it had. An `Err` changes nothing,
+    /// and gives the key and the value back.
+    pub fn put(&mut self, key: Blob, value: Value<N>) -> Result<Option<Value<N>>, PutBack<N>>
+        ensures before { IfOk result (λ before. before ≡ value_at self.old key) }
+        ensures ok { OnOk result (self.new ≡ with_value self.old key value) }
+        ensures key_back { IfErr result (λ back. back.key ≡ key) }
+        ensures value_back { IfErr result (λ back. back.value ≡ value) }
+        ensures err { OnErr result (self.new ≡ self.old) }
+    {
+        let stored = Stored::new(value, None);
+        match self.table.insert(key.into_vec(), stored) {
+            Ok(Some(before)) => Ok(Some(before.into_value())),
+            Ok(None) => Ok(None),
+            Err((key, stored)) => Err(PutBack {
+                key: Blob::from_vec(key),
+                value: stored.into_value(),
+            }),
+        }
+    }
+
+    /// Moves what a key has to another key, with its deadline, and gives the value that the other key had. The
+    /// first key must be there, and the other must be another. An `Err` changes nothing.
+    pub fn rename(&mut self, from: &[u8], to: Blob) -> Result<Option<Value<N>>, NoMemory>
+        requires there { IsSome (value_at self.old from.now) }
+        requires apart { from.now ≢ to }
+        ensures before { IfOk result (λ before. before ≡ value_at self.old to) }
+        ensures ok { OnOk result (self.new ≡ renamed self.old from.now to) }
+        ensures err { OnErr result (self.new ≡ self.old) }
+    {
+        match self.table.rename(self.alloc, from, to.into_vec())? {
+            Some(before) => Ok(Some(before.into_value())),
+            None => Ok(None),
+        }
+    }
+
+    /// The number of keys.
+    pub fn len(&self) -> u64
+        ensures count { result ≡ key_count self.now }
+    {
+        self.table.len() as u64
+    }
+
+    /// The keys in byte order, each with its value.
+    pub fn iter(&self) -> Entries<'_, N>
+        ensures listed { result ≡ listed self.now }
+    {
+        Entries::new(self.table.iter())
+    }
+
+    /// Takes out the least key in byte order, with its value, or gives `None` where there is no key.
+    pub fn pop_first(&mut self) -> Option<(Blob, Value<N>)>
+        ensures first { result ≡ slice_get (listed self.old) 0 }
+        ensures rest { MatchOption result (self.new ≡ self.old) (λ first. self.new ≡ without self.old first.0) }
+    {
+        match self.table.pop_first() {
+            Some((key, stored)) => Some((Blob::from_vec(key), stored.into_value())),
+            None => None,
+        }
+    }
+
+    /// The moment in milliseconds at which a key is due, or `None` where it has no deadline or is not there.
+    pub fn deadline(&self, key: &[u8]) -> Option<u64>
+        ensures deadline { result ≡ deadline_at self.now key.now }
+    {
+        match self.table.get(key) {
+            Some(stored) => stored.deadline(),
+            None => None,
+        }
+    }
+
+    /// Gives a key that is there this deadline, or none. An `Err` changes nothing.
+    pub fn set_deadline(&mut self, key: &[u8], at: Option<u64>) -> Result<(), NoMemory>
+        requires there { IsSome (value_at self.old key.now) }
+        ensures ok { OnOk result (self.new ≡ with_deadline self.old key.now at) }
+        ensures err { OnErr result (self.new ≡ self.old) }
+    {
+        if let Some(stored) = self.table.get_mut(key) {
+            stored.set_deadline(at);
+        }
+        Ok(())
+    }
+
+    /// The key that is due first at this moment in milliseconds: of the keys whose deadline is at most `now` the
+    /// one of the least deadline, and of several of that deadline the least in byte order; `None` where no key
+    /// is due. It goes over the keys once.
+    pub fn next_due(&self, now: u64) -> Option<&[u8]>
+        ensures first { option_map (λ key. key.now) result ≡ next_due self.now now }
+    {
+        first_due(self.table.iter(), now)
+    }
+}
