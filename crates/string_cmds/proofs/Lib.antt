@@ -1,0 +1,4 @@
+pub mod Laying
+pub mod Outcomes
+pub mod Told
+pub mod Kept
