@@ -118,7 +118,7 @@ def calls(folder, sent):
     found = []
     for line in lines:
         call = re.search(r"(\w+)\(", line).group(1) if "(" in line else ""
-        if call == "write" and re.search(r"write\(1<", line):
+        if call == "write" and "write(1</dev/null" in line:
             found.append("reply")
         elif folder + "/" + LOG in line and call != "openat":
             found.append(f"{call} log")
