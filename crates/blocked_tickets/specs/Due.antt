@@ -7,7 +7,8 @@ use Rattle.blocked_tickets.specs.declared.deadlines.Due.{Due}
 
 -- as a pair of numbers
 abbrev pub coded_due : Coded Due
-coded_due = code_by (ℕ × ℕ) (coded× coded_ℕ coded_ℕ) (λ d. (d.deadline, d.ticket)) (λ p. record { deadline = p.0; ticket = p.1 }) (λ _. refl)
+coded_due = code_by (ℕ × ℕ) (coded× coded_ℕ coded_ℕ) (λ d. (d.deadline, d.ticket))
+    (λ p. record { deadline = p.0; ticket = p.1 }) (λ _. refl)
 
 -- by deadline, and then by number
 abbrev pub due_cmp : Due → Due → Ordering

@@ -19,12 +19,15 @@ CanAdmit table = (map.len table.held < most_held) × (table.next < 2 ^ 64 - 1)
 abbrev pub AdmitCause : TicketTable → Result ℕ (AdmitFault × List ℕ) → Type 0
 AdmitCause table (Ok number) = CanAdmit table
 AdmitCause table (Err (Full, job)) = map.len table.held ≡ most_held
-AdmitCause table (Err (NumbersSpent, job)) = (map.len table.held < most_held) × (table.next ≡ 2 ^ 64 - 1)
+AdmitCause table (Err (NumbersSpent, job)) = (map.len table.held < most_held)
+    × (table.next ≡ 2 ^ 64 - 1)
 AdmitCause table (Err (Memory, job)) = CanAdmit table
 
 -- when a ticket is unblocked, and when each fault comes
 abbrev pub UnblockCause : TicketTable → ℕ → Result (Unit {0}) (UnblockFault × List ℕ) → Type 0
-UnblockCause table number (Ok done) = IsSome (ticket_at table number) × (payload_of table number ≡ None)
+UnblockCause table number (Ok done) = IsSome (ticket_at table number)
+    × (payload_of table number ≡ None)
 UnblockCause table number (Err (Already, payload)) = IsSome (payload_of table number)
-UnblockCause table number (Err (Closed, payload)) = (ticket_at table number ≡ None) × (0 < number) × (number < table.next)
+UnblockCause table number (Err (Closed, payload)) = (ticket_at table number ≡ None) × (0 < number)
+    × (number < table.next)
 UnblockCause table number (Err (NeverIssued, payload)) = (number ≡ 0) ⊎ (table.next ≤ number)

@@ -7,7 +7,14 @@ use Rattle.blocked_tickets.specs.declared.ticket.Ticket.{Ticket}
 -- a ticket as it is opened: its client waits, and nothing came yet
 abbrev pub new_ticket : ℕ → ℕ → List ℕ → Option ℕ → Ticket
 new_ticket client place job deadline =
-    record { client = client; place = place; job = job; deadline = deadline; phase = Waiting; payload = None }
+    record {
+      client = client;
+      place = place;
+      job = job;
+      deadline = deadline;
+      phase = Waiting;
+      payload = None;
+    }
 
 -- the same ticket in another phase
 abbrev pub turned : Phase → Ticket → Ticket

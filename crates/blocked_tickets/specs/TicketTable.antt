@@ -1,4 +1,5 @@
--- The tickets of the machine: those that are held, which of them were unblocked, and each step on them.
+-- The tickets of the machine: those that are held, which of them were unblocked, and each step on
+-- them.
 use Rattle.std.specs.Prelude.{ℕ, ◌+◌, ◌==◌, nat_le, List, [], ◌∷◌, ◌++◌, filter, not, Option, false, refl}
 use Rattle.std.specs.Option.{option_map, option_and_then, option_map_or}
 use Rattle.std.specs.List.{find, filter_map}
@@ -30,7 +31,8 @@ pub record TicketTable : Type 0 where
 abbrev pub coded_table : Coded TicketTable
 coded_table =
     code_by (HeldMap × (List ℕ × ℕ)) (coded× coded_held (coded× (coded_list coded_ℕ) coded_ℕ))
-    (λ t. (t.held, (t.ready, t.next))) (λ p. record { held = p.0; ready = p.1.0; next = p.1.1 }) (λ _. refl)
+    (λ t. (t.held, (t.ready, t.next))) (λ p. record { held = p.0; ready = p.1.0; next = p.1.1 })
+    (λ _. refl)
 
 -- ---- what a table shows
 
@@ -53,18 +55,21 @@ payload_of table number = option_and_then (λ ticket. ticket.payload) (ticket_at
 -- the ticket on which a client waits
 abbrev pub ticket_of : TicketTable → ℕ → Option ℕ
 ticket_of table client =
-    option_map (λ e. e.0) (find (λ e. option_map_or (λ c. c == client) (waiter e.1) false) (map.entries table.held))
+    option_map (λ e. e.0)
+    (find (λ e. option_map_or (λ c. c == client) (waiter e.1) false) (map.entries table.held))
 
 -- the deadlines that can still come
 abbrev pub open_deadlines : TicketTable → List Due
 open_deadlines table =
-    filter_map (λ e. option_map (λ d. record { deadline = d; ticket = e.0 }) (open_deadline e.1)) (map.entries table.held)
+    filter_map (λ e. option_map (λ d. record { deadline = d; ticket = e.0 }) (open_deadline e.1))
+    (map.entries table.held)
 
--- the ticket that is due now: of those whose deadline has come, the one of the least deadline, then of the
--- least number
+-- the ticket that is due now: of those whose deadline has come, the one of the least deadline, then
+-- of the least number
 abbrev pub due_at : TicketTable → ℕ → Option ℕ
 due_at table now =
-    option_map (λ due. due.ticket) (soonest (filter (λ due. nat_le due.deadline now) (open_deadlines table)))
+    option_map (λ due. due.ticket)
+    (soonest (filter (λ due. nat_le due.deadline now) (open_deadlines table)))
 
 -- ---- the steps
 
@@ -74,7 +79,12 @@ no_tickets = record { held = map.empty; ready = []; next = 1 }
 -- with a new ticket, which has the next number
 abbrev pub admitted : TicketTable → Ticket → TicketTable
 admitted table ticket =
-    record { held = map.insert table.held table.next ticket; ready = table.ready; next = table.next + 1 }
+    record {
+      held = map.insert table.held table.next ticket;
+      ready = table.ready;
+      next =
+          table.next + 1;
+    }
 
 -- with one ticket changed, where it is held
 abbrev pub with_changed : HeldMap → ℕ → (Ticket → Ticket) → HeldMap
@@ -87,7 +97,12 @@ changed table number change = record table { held = with_changed table.held numb
 -- with one ticket unblocked, which is ready last
 abbrev pub unblocked : TicketTable → ℕ → List ℕ → TicketTable
 unblocked table number payload =
-    record { held = with_changed table.held number (with_payload payload); ready = table.ready ++ number ∷ []; next = table.next }
+    record {
+      held = with_changed table.held number (with_payload payload);
+      ready =
+          table.ready ++ number ∷ [];
+      next = table.next;
+    }
 
 -- with one ticket timed out
 abbrev pub timed_out : TicketTable → ℕ → TicketTable
@@ -95,9 +110,15 @@ timed_out table number = changed table number (turned TimedOut)
 
 -- with the ticket gone on which a client waited
 abbrev pub client_gone : TicketTable → ℕ → TicketTable
-client_gone table client = option_map_or (λ number. changed table number (turned Gone)) (ticket_of table client) table
+client_gone table client =
+    option_map_or (λ number. changed table number (turned Gone)) (ticket_of table client) table
 
 -- with one ticket held no more
 abbrev pub closed : TicketTable → ℕ → TicketTable
 closed table number =
-    record { held = map.remove table.held number; ready = filter (λ n. not (n == number)) table.ready; next = table.next }
+    record {
+      held = map.remove table.held number;
+      ready =
+          filter (λ n. not (n == number)) table.ready;
+      next = table.next;
+    }

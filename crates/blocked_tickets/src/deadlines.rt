@@ -19,8 +19,8 @@ pub(crate) struct Due {
     pub ticket: u64,
 }
 
-/// The deadlines of the Waiting tickets that have no payload. Every call is O(log n); only `insert` takes
-/// memory.
+/// The deadlines of the Waiting tickets that have no payload. Every call is O(log n); only `insert`
+/// takes memory.
 #[derive(Debug, Drop)]
 pub(crate) struct Deadlines {
     dues: BTreeSet<Due>,

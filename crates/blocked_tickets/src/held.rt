@@ -22,12 +22,18 @@ impl Model for Held {
 
     ghost coded = { coded_table };
 
-    ghost view = { λ h. record { held = from_entries h.tickets.items; ready = h.ready.items; next = h.next } };
+    ghost view = { λ h. record {
+      held = from_entries h.tickets.items;
+      ready = h.ready.items;
+      next =
+          h.next;
+    } };
 }
 
 impl Held {
     pub(crate) fn new(tickets: Vec<(u64, Ticket)>, ready: Vec<u64>, next: u64) -> Held
-        ensures made { result ≡ record { held = from_entries tickets.items; ready = ready.items; next = next } }
+        ensures made { result
+            ≡ record { held = from_entries tickets.items; ready = ready.items; next = next } }
     {
         Held {
             tickets,

@@ -9,8 +9,8 @@ use std::alloc::Global;
 use std::collections::VecDeque;
 use std::marker::Model;
 
-/// The numbers of the ready tickets, with room for more. Adding at the end and taking the first cost O(1);
-/// only `reserve` takes memory, and a copy.
+/// The numbers of the ready tickets, with room for more. Adding at the end and taking the first
+/// cost O(1); only `reserve` takes memory, and a copy.
 #[derive(Debug, Drop)]
 pub(crate) struct ReadyLine {
     numbers: VecDeque<u64>,
@@ -34,7 +34,7 @@ impl ReadyLine {
         }
     }
 
-    // Makes room for so many in all.
+    // Makes room for this number in all.
     pub(crate) fn reserve(&mut self, total: usize) -> Result<(), NoMemory>
         ensures same { self.new.numbers ≡ self.old.numbers }
         ensures ok { OnOk result (total ≤ self.new.room) }

@@ -47,8 +47,8 @@ fn close(tickets: &mut Tickets) -> Option<Ticket> {
     }
 }
 
-// The tickets that time out at each of these moments, one a moment: the third has the least deadline, the first
-// two have one deadline, and the fourth was unblocked before its own.
+// The tickets that time out at each of these moments, one a moment: the third has the least
+// deadline, the first two have one deadline, and the fourth was unblocked before its own.
 fn timed_out(alloc: Global, moments: &[u64]) -> Result<Vec<Option<u64>>, NoMemory> {
     let mut tickets = Tickets::new(alloc);
     for (client, deadline) in [(1, 100), (2, 100), (3, 50), (4, 20)] {
@@ -62,8 +62,8 @@ fn timed_out(alloc: Global, moments: &[u64]) -> Result<Vec<Option<u64>>, NoMemor
     Ok(due)
 }
 
-// What the pump closes, phase by phase: a ticket whose client waits, one that timed out before its unblock, and
-// one whose client left after it.
+// What the pump closes, phase by phase: a ticket whose client waits, one that timed out before its
+// unblock, and one whose client left after it.
 fn closed(alloc: Global) -> Result<Vec<Option<Phase>>, NoMemory> {
     let mut tickets = Tickets::new(alloc);
     for client in [7, 8, 9] {
@@ -81,7 +81,8 @@ fn closed(alloc: Global) -> Result<Vec<Option<Phase>>, NoMemory> {
     Ok(phases)
 }
 
-// The answers to an unblock of each of these tickets, where the first was closed and the second unblocked.
+// The answers to an unblock of each of these tickets, where the first was closed and the second
+// unblocked.
 fn refusals(alloc: Global, numbers: &[u64]) -> Result<Vec<Option<UnblockFault>>, NoMemory> {
     let mut tickets = Tickets::new(alloc);
     for client in [1, 2, 3] {

@@ -41,7 +41,8 @@ impl Model for Tickets {
 
     ghost view = { λ t. table_of t.held t.ready.numbers t.next };
 
-    ghost invariant = { λ t. Indexed t.waiters t.deadlines t.ready.room (table_of t.held t.ready.numbers t.next) };
+    ghost invariant = { λ t. Indexed t.waiters t.deadlines t.ready.room
+        (table_of t.held t.ready.numbers t.next) };
 }
 
 impl Tickets {
@@ -58,9 +59,9 @@ impl Tickets {
         }
     }
 
-    /// Opens a ticket for a client that waits on none, and gives its number. A fault gives the job back:
-    /// `Full` exactly where 65,536 tickets are held, else `NumbersSpent` exactly where the next number is
-    /// 2^64 - 1.
+    /// Opens a ticket for a client that waits on none, and gives its number. A fault gives the job
+    /// back: `Full` exactly where 65,536 tickets are held, else `NumbersSpent` exactly where the
+    /// next number is 2^64 - 1.
     pub fn admit(
         &mut self,
         client: u64,
@@ -70,7 +71,8 @@ impl Tickets {
     ) -> Result<u64, (AdmitFault, Blob)>
         requires { ticket_of self.old client ≡ None }
         ensures number { IfOk result (λ number. number ≡ self.old.next) }
-        ensures opened { OnOk result (self.new ≡ admitted self.old (new_ticket client place job deadline)) }
+        ensures opened { OnOk result
+            (self.new ≡ admitted self.old (new_ticket client place job deadline)) }
         ensures cause { AdmitCause self.old result }
         ensures job_back { IfErr result (λ fault. fault.1 ≡ job) }
         ensures err { OnErr result (self.new ≡ self.old) }
@@ -106,9 +108,10 @@ impl Tickets {
         Ok(number)
     }
 
-    /// Gives a ticket its payload, and makes it the last of the ready ones. Its phase stays. A fault gives
-    /// the payload back: `Already` exactly where the ticket is held and has a payload, `Closed` exactly where
-    /// it was issued and is not held, `NeverIssued` exactly where it is 0 or not below the next number.
+    /// Gives a ticket its payload, and makes it the last of the ready ones. Its phase stays. A
+    /// fault gives the payload back: `Already` exactly where the ticket is held and has a payload,
+    /// `Closed` exactly where it was issued and is not held, `NeverIssued` exactly where it is 0 or
+    /// not below the next number.
     pub fn unblock(&mut self, ticket: u64, payload: Blob) -> Result<(), (UnblockFault, Blob)>
         ensures unblocked { OnOk result (self.new ≡ unblocked self.old ticket payload) }
         ensures cause { UnblockCause self.old ticket result }
@@ -145,8 +148,9 @@ impl Tickets {
         self.ready.first()
     }
 
-    /// The ticket that times out now, or `None` where none does: of the Waiting tickets without a payload
-    /// whose deadline is at most `now`, the one of the least deadline, then of the least number.
+    /// The ticket that times out now, or `None` where none does: of the Waiting tickets without a
+    /// payload whose deadline is at most `now`, the one of the least deadline, then of the least
+    /// number.
     pub fn due(&self, now: u64) -> Option<u64>
         ensures due { result ≡ due_at self.now now }
         ensures can_time_out { IfSome result (λ number. IsSome (deadline_of self.now number)) }
@@ -165,8 +169,8 @@ impl Tickets {
         self.end_wait(ticket, Phase::TimedOut);
     }
 
-    /// Turns the ticket on which a client waits to Gone, unblocked or not, and gives its number. `None`
-    /// where the client waits on none.
+    /// Turns the ticket on which a client waits to Gone, unblocked or not, and gives its number.
+    /// `None` where the client waits on none.
     pub fn gone(&mut self, client: u64) -> Option<u64>
         ensures ticket { result ≡ ticket_of self.old client }
         ensures gone { self.new ≡ client_gone self.old client }

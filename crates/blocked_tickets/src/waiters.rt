@@ -9,8 +9,8 @@ use std::alloc::Global;
 use std::collections::BTreeMap;
 use std::marker::Model;
 
-/// The number of the Waiting ticket of each client that has one. Every call is O(log n); only `insert` takes
-/// memory.
+/// The number of the Waiting ticket of each client that has one. Every call is O(log n); only
+/// `insert` takes memory.
 #[derive(Debug, Drop)]
 pub(crate) struct Waiters {
     tickets: BTreeMap<u64, u64>,

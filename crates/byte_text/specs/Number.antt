@@ -5,7 +5,8 @@ use Rattle.std.specs.Fmt.{decimal, signed_decimal}
 use Rattle.std.specs.Str.{bytes_eq}
 use Rattle.std.specs.Str.Parse.{digits_value, signed_digits_value}
 
--- the u64 whose decimal the text is: the number that its digits write, where that number is written so
+-- the u64 whose decimal the text is: the number that its digits write, where that number is written
+-- so
 unfoldable pub u64_of : List ℕ → Option ℕ
 u64_of text =
     let n = digits_value 10 text in
@@ -16,7 +17,8 @@ abbrev pub fits_i64 : ℤ → Bool
 fits_i64 (pos n) = nat_lt n (2 ^ 63)
 fits_i64 (negsuc n) = nat_lt n (2 ^ 63)
 
--- the i64 whose decimal the text is: the number that its sign and digits write, where it is written so
+-- the i64 whose decimal the text is: the number that its sign and digits write, where it is written
+-- so
 unfoldable pub i64_of : List ℕ → Option ℤ
 i64_of text =
     let n = signed_digits_value 10 text in

@@ -53,7 +53,8 @@ pub fn i64_text(n: i64) -> Decimal
     Decimal { row, first }
 }
 
-// Sets a sign, where there is one, and the digits at the end of the row, and answers where they begin.
+// Sets a sign, where there is one, and the digits at the end of the row, and answers where they
+// begin.
 fn set_signed(row: &mut [u8; WIDTH], n: i64) -> usize
     ensures within { result ≤ WIDTH }
     ensures digits { drop result row.new ≡ signed_decimal n }

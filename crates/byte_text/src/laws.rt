@@ -9,13 +9,15 @@ ghost use Rattle.byte_text.specs.Number.{IsShort, AreDigits, AreSignedDigits, i6
 /// Each number has one decimal, from which it is read, and no other text is read as a number.
 pub fn decimals_are_canonical()
     ensures unsigned { (n : ℕ) → n < 2 ^ 64 → u64_of (decimal n) ≡ Some n }
-    ensures unsigned_only { (text : List ℕ) (n : ℕ) → u64_of text ≡ Some n → (n < 2 ^ 64) × (text ≡ decimal n) }
+    ensures unsigned_only { (text : List ℕ) (n : ℕ) → u64_of text ≡ Some n → (n < 2 ^ 64)
+        × (text ≡ decimal n) }
     ensures signed { (n : ℤ) → FitsSigned w64 n → i64_of (signed_decimal n) ≡ Some n }
     ensures signed_only { (text : List ℕ) (n : ℤ) → i64_of text ≡ Some n
         → FitsSigned w64 n × (text ≡ signed_decimal n) }
 {}
 
-/// A decimal has from one to twenty bytes: digits, and a `-` in front of those of a number below zero.
+/// A decimal has from one to twenty bytes: digits, and a `-` in front of those of a number below
+/// zero.
 pub fn decimals_are_short()
     ensures unsigned { (n : ℕ) → n < 2 ^ 64 → IsShort (decimal n) }
     ensures digits { (n : ℕ) → n < 2 ^ 64 → AreDigits (decimal n) }
@@ -23,8 +25,8 @@ pub fn decimals_are_short()
     ensures sign { (n : ℤ) → FitsSigned w64 n → AreSignedDigits (signed_decimal n) }
 {}
 
-/// Two names are the same where they have as many bytes, and each byte of the one is that of the other or the
-/// other case of the same letter.
+/// Two names are the same where they have as many bytes, and each byte of the one is that of the
+/// other or the other case of the same letter.
 pub fn names_by_bytes()
     ensures bytes { (a b : List ℕ) → (upper_name a ≡ upper_name b) ↔ DifferInCase a b }
     ensures again { (a : List ℕ) → upper_name (upper_name a) ≡ upper_name a }

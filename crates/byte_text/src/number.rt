@@ -9,8 +9,9 @@ ghost use Rattle.byte_text.specs.Number.{i64_of, u64_of};
 // How far the least i64 is from zero.
 const LEAST: u64 = 1 << 63;
 
-/// The number whose canonical decimal this text is, or `None` where it is that of no i64: `-` may stand in
-/// front of digits that are not `0` alone, `+` and a zero in front of another digit may not.
+/// The number whose canonical decimal this text is, or `None` where it is that of no i64: `-` may
+/// stand in front of digits that are not `0` alone, `+` and a zero in front of another digit may
+/// not.
 pub fn read_i64(text: &[u8]) -> Option<i64>
     ensures value { result ≡ i64_of text.now }
     ensures text { IfSome result (λ n. text.now ≡ signed_decimal n) }
@@ -32,8 +33,8 @@ fn below_zero(size: u64) -> Option<i64>
     Some(-1 - (size - 1) as i64)
 }
 
-/// The number whose canonical decimal this text is, or `None` where it is that of no u64: one digit or more,
-/// with no zero in front of another digit.
+/// The number whose canonical decimal this text is, or `None` where it is that of no u64: one digit
+/// or more, with no zero in front of another digit.
 #[tactic(auto, using(crate::proofs::ReadingDigits::decimals))]
 pub fn read_u64(text: &[u8]) -> Option<u64>
     ensures value { result ≡ u64_of text.now }
@@ -49,7 +50,8 @@ pub fn read_u64(text: &[u8]) -> Option<u64>
     value_of_digits(text)
 }
 
-// The number that these digits write, or `None` where a byte is no digit or the number has no 64 bits.
+// The number that these digits write, or `None` where a byte is no digit or the number has no 64
+// bits.
 #[tactic(auto, using(crate::proofs::ReadingDigits::one_more))]
 fn value_of_digits(text: &[u8]) -> Option<u64>
     ensures fits { IfSome result (λ n. n < 2 ^ 64) }

@@ -30,7 +30,8 @@ fn limits_both_ways(rt: HostRuntime) -> Result<(), Fail> {
     Ok(())
 }
 
-// Texts that are no canonical decimal, and decimals of numbers just past the limits, are read as none.
+// Texts that are no canonical decimal, and decimals of numbers just past the limits, are read as
+// none.
 #[test]
 fn others_refused(rt: HostRuntime) -> Result<(), Fail> {
     let neither: [&[u8]; 12] = [

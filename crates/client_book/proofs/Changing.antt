@@ -38,7 +38,7 @@ find-lookup : {X : Type 0} (q : ℕ) (es : List (ℕ × X)) → find nat_cmp q e
 find-lookup q [] = refl
 find-lookup q (e ∷ es) = ap (cond (eq_by_cmp nat_cmp q e.0) (Some e.1)) (find-lookup q es)
 
--- the register that a table of entries is seen as, after so many flushes
+-- the register that a table of entries is seen as, after this number of flushes
 abbrev pub register : ℕ → ℕ → BTreeMap ℕ Entry → Register
 register flushes last table = record { clients = each (shown flushes) (from_entries table.entries); last = last }
 

@@ -11,7 +11,16 @@ use Rattle.client_book.specs.Queue.{with_command, spoiled}
 
 -- one that has just joined
 abbrev pub new_client : Client
-new_client = record { closing = false; waiting = None; pending = []; queue = None; watched = []; touched = false; from = 0; told = [] }
+new_client = record {
+  closing = false;
+  waiting = None;
+  pending = [];
+  queue = None;
+  watched = [];
+  touched = false;
+  from = 0;
+  told = [];
+}
 
 -- its replies: the text is told behind what was told so far; the first n bytes are let go
 abbrev pub tells : List ℕ → Client → Client
@@ -61,4 +70,11 @@ ends_queue client = record client { queue = None; watched = []; touched = false 
 
 -- it is closing: nothing waits for it any longer, and its queue and its watches end
 abbrev pub closes : Client → Client
-closes client = record client { closing = true; pending = []; queue = None; watched = []; touched = false }
+closes client = record client {
+  closing = true;
+  pending = [];
+  queue = None;
+  watched = [];
+  touched =
+      false;
+}

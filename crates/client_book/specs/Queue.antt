@@ -11,4 +11,5 @@ spoiled queued = record queued { spoiled = true }
 
 -- as it ends, with the mark of the watches
 abbrev pub ended : Bool → Queued → Queue
-ended touched queued = record { commands = queued.commands; spoiled = queued.spoiled; touched = touched }
+ended touched queued =
+    record { commands = queued.commands; spoiled = queued.spoiled; touched = touched }

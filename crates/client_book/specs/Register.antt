@@ -14,7 +14,8 @@ use Rattle.client_book.specs.contracts.client.Client as client
 use Rattle.client_book.specs.Client.{new_client}
 use Rattle.client_book.specs.Queue.{ended}
 
--- `may` is a place in the client's stream of replies, of which `client.told` begins at `client.from`
+-- `may` is a place in the client's stream of replies, of which `client.told` begins at
+-- `client.from`
 pub record Listed : Type 0 where
   pub client : Client
   pub may : ℕ
@@ -30,15 +31,19 @@ pub record Roll : Type 0 where
   pub last : ℕ
 
 abbrev pub listed_code : Coded Listed
-listed_code = code_by (Client × ℕ) (coded× client.the_row.coded coded_ℕ) (λ l. (l.client, l.may)) (λ p. record { client = p.0; may = p.1 }) (λ _. refl)
+listed_code = code_by (Client × ℕ) (coded× client.the_row.coded coded_ℕ) (λ l. (l.client, l.may))
+    (λ p. record { client = p.0; may = p.1 }) (λ _. refl)
 
 abbrev pub register_code : Coded Register
 register_code =
-    code_by (finite.FinMap nat_cmp Listed × ℕ) (coded× (finite.code coded_ℕ listed_code) coded_ℕ) (λ r. (r.clients, r.last)) (λ p. record { clients = p.0; last = p.1 }) (λ _. refl)
+    code_by (finite.FinMap nat_cmp Listed × ℕ) (coded× (finite.code coded_ℕ listed_code) coded_ℕ)
+    (λ r. (r.clients, r.last)) (λ p. record { clients = p.0; last = p.1 }) (λ _. refl)
 
 abbrev pub roll_code : Coded Roll
 roll_code =
-    code_by (finite.FinMap nat_cmp Client × ℕ) (coded× (finite.code coded_ℕ client.the_row.coded) coded_ℕ) (λ r. (r.clients, r.last)) (λ p. record { clients = p.0; last = p.1 }) (λ _. refl)
+    code_by (finite.FinMap nat_cmp Client × ℕ)
+    (coded× (finite.code coded_ℕ client.the_row.coded) coded_ℕ) (λ r. (r.clients, r.last))
+    (λ p. record { clients = p.0; last = p.1 }) (λ _. refl)
 
 -- what the register has for a client, where it is there
 abbrev pub listed : Register → ℕ → Option Listed
@@ -55,14 +60,20 @@ nobody = record { clients = finite.empty; last = 0 }
 
 -- a client joins, with nothing told
 abbrev pub joins : ℕ → Register → Register
-joins number register = record { clients = finite.insert register.clients number (record { client = new_client; may = 0 }); last = number }
+joins number register =
+    record {
+      clients = finite.insert register.clients number
+          (record { client = new_client; may = 0 });
+      last = number;
+    }
 
 abbrev pub leaves : ℕ → Register → Register
 leaves number register = record register { clients = finite.remove register.clients number }
 
 abbrev pub put_if_there : Option Listed → (Listed → Listed) → ℕ → Register → Register
 put_if_there None f number register = register
-put_if_there (Some entry) f number register = record register { clients = finite.insert register.clients number (f entry) }
+put_if_there (Some entry) f number register =
+    record register { clients = finite.insert register.clients number (f entry) }
 
 -- what is listed of one client changes, where it is there
 abbrev pub lists : (Listed → Listed) → ℕ → Register → Register
@@ -124,4 +135,7 @@ pub record IsFront (entry : Listed) : Type 0 where
   pub ends : entry.may ≤ entry.client.from + length entry.client.told
 
 abbrev pub roll_of : Register → Roll
-roll_of register = record { clients = each (λ (entry : Listed). entry.client) register.clients; last = register.last }
+roll_of register = record {
+  clients = each (λ (entry : Listed). entry.client) register.clients;
+  last = register.last;
+}

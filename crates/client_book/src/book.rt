@@ -48,7 +48,10 @@ impl Model for Book {
 
     ghost use Rattle.client_book.specs.inner.Entry.{shown, AllFit};
 
-    ghost view = { λ b. record { clients = each (shown b.flushes) (from_entries b.clients.entries); last = b.last } };
+    ghost view = { λ b. record {
+      clients = each (shown b.flushes) (from_entries b.clients.entries);
+      last = b.last;
+    } };
 
     ghost invariant = { λ b. AllFit b.flushes b.watchers b.clients };
 }
@@ -67,8 +70,8 @@ impl Book {
         }
     }
 
-    /// A client comes. An `Err` changes nothing; it is `Stale` exactly where the number is 0 or not above every
-    /// number that joined.
+    /// A client comes. An `Err` changes nothing; it is `Stale` exactly where the number is 0 or not
+    /// above every number that joined.
     pub fn join(&mut self, client: u64) -> Result<(), JoinFault>
         ensures ok { OnOk result (self.new ≡ joins client self.old) }
         ensures stale { (result ≡ Err JoinFault.Stale) ↔ (client ≤ self.old.last) }
@@ -146,8 +149,8 @@ impl Book {
         }
     }
 
-    /// A request comes while its client waits. An `Err` changes nothing and hands the item back; it is `TooMany`
-    /// exactly where 1,024 wait already.
+    /// A request comes while its client waits. An `Err` changes nothing and hands the item back; it
+    /// is `TooMany` exactly where 1,024 wait already.
     pub fn pend(&mut self, client: u64, item: Pending) -> Result<(), PendFault>
         requires there { IsSome (listed self.old client) }
         ensures ok { OnOk result (self.new ≡ changes (pends item) client self.old) }
@@ -174,8 +177,9 @@ impl Book {
         entry.pending.pop_front()
     }
 
-    /// Tells a client a reply: its text is added to the bytes that are held. It may be taken after the next
-    /// flush. An `Err` changes nothing; where a place in the stream would pass 64 bits, it is want of memory.
+    /// Tells a client a reply: its text is added to the bytes that are held. It may be taken after
+    /// the next flush. An `Err` changes nothing; where a place in the stream would pass 64 bits, it
+    /// is want of memory.
     pub fn hold(&mut self, client: u64, reply: &Reply) -> Result<(), NoMemory>
         requires there { IsSome (listed self.old client) }
         ensures ok { OnOk result (self.new ≡ changes (tells (text reply.now)) client self.old) }
@@ -199,11 +203,12 @@ impl Book {
         self.flushes = self.flushes.saturating_add(1);
     }
 
-    /// Moves the longest front of the bytes that a client may take, and that fits, and says how long it is. It
-    /// is 0 for a client that is not there.
+    /// Moves the longest front of the bytes that a client may take, and that fits, and says how
+    /// long it is. It is 0 for a client that is not there.
     pub fn take_out(&mut self, client: u64, into: &mut [u8]) -> usize
         ensures count { result ≡ min (length into.old) (free_of (listed self.old client)) }
-        ensures moved { into.new ≡ take result (told_of (listed self.old client)) ++ drop result into.old }
+        ensures moved { into.new
+            ≡ take result (told_of (listed self.old client)) ++ drop result into.old }
         ensures left { self.new ≡ changes (passes result) client self.old }
     {
         let flushes = self.flushes;
@@ -239,7 +244,8 @@ impl Book {
         });
     }
 
-    /// Adds a command to a client's transaction. An `Err` changes nothing, and the words are dropped.
+    /// Adds a command to a client's transaction. An `Err` changes nothing, and the words are
+    /// dropped.
     pub fn queue(&mut self, client: u64, words: Args) -> Result<(), NoMemory>
         requires begun { IsSome (queue_of (listed self.old client)) }
         ensures ok { OnOk result (self.new ≡ changes (queues words) client self.old) }
@@ -322,8 +328,8 @@ impl Book {
         }
     }
 
-    /// A client is served no longer. What waits for it is dropped, and its transaction and its watches end. It
-    /// may still be told and take replies.
+    /// A client is served no longer. What waits for it is dropped, and its transaction and its
+    /// watches end. It may still be told and take replies.
     pub fn set_closing(&mut self, client: u64)
         requires there { IsSome (listed self.old client) }
         ensures closing { self.new ≡ changes closes client self.old }

@@ -9,7 +9,8 @@ use resp_codec::write_reply;
 use std::alloc::Global;
 use std::marker::Model;
 
-// Fewer bytes than this that were taken are not worth moving the rest for, nor is so little memory given back.
+// Fewer bytes than this that were taken are not worth moving the rest for, nor is so little memory
+// given back.
 const SMALL: usize = 4_096;
 
 /// Bytes that are told and not taken. A front of them may be taken; after a flush all of them.
@@ -32,7 +33,12 @@ impl Model for Outbox {
 
     ghost Value = { Outgoing };
 
-    ghost view = { λ o. record { from = o.from; told = drop o.start o.bytes.items; free = o.free; flushes = o.flushes } };
+    ghost view = { λ o. record {
+      from = o.from;
+      told = drop o.start o.bytes.items;
+      free = o.free;
+      flushes = o.flushes;
+    } };
 
     ghost invariant = { λ o. IsWhole o.bytes.items o.start o.from o.free };
 }
@@ -65,7 +71,7 @@ impl Outbox {
         (self.bytes.len() - self.start) as u64
     }
 
-    /// The number of bytes that may be taken after so many flushes.
+    /// The number of bytes that may be taken after this number of flushes.
     pub(crate) fn free(&self, flushes: u64) -> u64
         ensures free { result ≡ free_at flushes self.now }
         ensures within { result ≤ length self.now.told }
@@ -84,7 +90,8 @@ impl Outbox {
         Blob::from_slice(alloc, &self.bytes[self.start..])
     }
 
-    /// Adds the text of a reply, which may not be taken before the next flush. An `Err` changes nothing.
+    /// Adds the text of a reply, which may not be taken before the next flush. An `Err` changes
+    /// nothing.
     pub(crate) fn hold(
         &mut self,
         alloc: Global,
@@ -102,7 +109,8 @@ impl Outbox {
         Ok(())
     }
 
-    /// Moves the longest front that may be taken after so many flushes and fits, and says how long it is.
+    /// Moves the longest front that may be taken after this number of flushes and fits, and says
+    /// how long it is.
     pub(crate) fn take(&mut self, into: &mut [u8], flushes: u64) -> usize
         ensures count { result ≡ min (length into.old) (free_at flushes self.old) }
         ensures moved { into.new ≡ take result self.old.told ++ drop result into.old }
@@ -119,8 +127,8 @@ impl Outbox {
     }
 }
 
-// Adds a reply's text, of which there may be no more than `room` bytes behind the first `start`. An `Err`
-// changes nothing.
+// Adds a reply's text, of which there may be no more than `room` bytes behind the first `start`. An
+// `Err` changes nothing.
 fn write_text(
     alloc: Global,
     bytes: &mut Vec<u8>,
@@ -144,9 +152,9 @@ fn write_text(
     written
 }
 
-// Lets go of the first `taken` bytes, which are not looked at again, or keeps them for a while. Says how many
-// are kept. Where it moves bytes they are no more than those that it lets go of, and where nothing or little is
-// left it gives the memory back.
+// Lets go of the first `taken` bytes, which are not looked at again, or keeps them for a while.
+// Says how many are kept. Where it moves bytes they are no more than those that it lets go of, and
+// where nothing or little is left it gives the memory back.
 fn let_go(bytes: &mut Vec<u8>, taken: usize) -> usize
     requires { taken ≤ length bytes.old.items }
     ensures kept { result ≤ length bytes.new.items }

@@ -7,7 +7,7 @@ use core_types::{Args, BadRequest, Duplicate, NoMemory};
 use std::alloc::Global;
 use std::collections::VecDeque;
 
-// So many items may wait for a client that waits itself.
+// The most items that may wait for a client that waits itself.
 const MOST: usize = 1_024;
 
 /// A request that came while its client waited, and is served when it no longer waits.
@@ -37,8 +37,8 @@ pub enum PendFault {
     Memory(Pending),
 }
 
-/// Adds an item to those that wait. An `Err` changes nothing and hands the item back; it is `TooMany` exactly
-/// where 1,024 wait already.
+/// Adds an item to those that wait. An `Err` changes nothing and hands the item back; it is
+/// `TooMany` exactly where 1,024 wait already.
 pub(crate) fn push_pending(items: &mut VecDeque<Pending>, item: Pending) -> Result<(), PendFault>
     ensures ok { OnOk result (items.new.items ≡ items.old.items ++ item ∷ []) }
     ensures too_many { (result ≡ Err (PendFault.TooMany item)) ↔ (length items.old.items ≡ 1024) }

@@ -16,7 +16,8 @@ use std::collections::{BTreeMap, BTreeSet};
 /// Marks the listed clients that watch a key.
 pub(crate) fn mark_all(clients: &mut BTreeMap<u64, Entry>, watching: &BTreeSet<u64>, key: &[u8])
     requires others { (client : ℕ) → contains nat_cmp watching.now client ≡ false →
-        option_map (marked key.now) (get nat_cmp clients.old client) ≡ get nat_cmp clients.old client }
+        option_map (marked key.now) (get nat_cmp clients.old client)
+        ≡ get nat_cmp clients.old client }
     ensures marked { BecomesAll (marked key.now) clients.old clients.new }
 {
     for client in watching {
@@ -40,7 +41,8 @@ pub(crate) fn copy_records(
     alloc: Global,
     clients: &BTreeMap<u64, Entry>,
 ) -> Result<Vec<(u64, Client)>, NoMemory>
-    ensures same { IfOk result (λ records. records.items ≡ map (λ e. (e.0, client_of e.1)) clients.now.entries) }
+    ensures same { IfOk result
+        (λ records. records.items ≡ map (λ e. (e.0, client_of e.1)) clients.now.entries) }
 {
     let mut records = Vec::new(alloc);
     for (client, entry) in clients {

@@ -42,7 +42,7 @@ fn take_by_byte(alloc: Global, book: &mut Book, client: u64) -> Result<Blob, NoM
     Ok(taken)
 }
 
-// How many of so many items a client's list takes, before one is too many.
+// How many of these items a client's list takes, before one is too many.
 fn pended(book: &mut Book, client: u64, items: u64) -> u64 {
     let mut taken = 0;
     for n in 0..items {
@@ -65,7 +65,8 @@ fn watch(book: &mut Book, client: u64, key: &[u8]) -> Result<(), NoMemory> {
     Ok(())
 }
 
-// Runs a transaction of one command, and says how many commands it had and whether a watched key was changed.
+// Runs a transaction of one command, and says how many commands it had and whether a watched key
+// was changed.
 fn transaction(alloc: Global, book: &mut Book, client: u64) -> Result<(usize, bool), NoMemory> {
     if is_there(book, client) {
         book.begin_queue(client);

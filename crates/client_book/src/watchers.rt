@@ -8,8 +8,8 @@ use core_types::NoMemory;
 use std::alloc::Global;
 use std::collections::{BTreeMap, BTreeSet};
 
-/// For each watched key the clients that watch it. A client that watches no longer may be listed still, as
-/// far as contracts go: what watches is in the client's own record.
+/// For each watched key the clients that watch it. A client that watches no longer may be listed
+/// still, as far as contracts go: what watches is in the client's own record.
 #[derive(Debug, Drop)]
 pub(crate) struct Watchers {
     pub(crate) clients: BTreeMap<Vec<u8>, BTreeSet<u64>>,

@@ -50,5 +50,6 @@ CanAdd commands name = (command_named commands name ≡ None) × (map.len comman
 abbrev pub AddCause : Commands → List ℕ → Result (Unit {0}) RegisterFault → Type 0
 AddCause commands name (Ok done) = CanAdd commands name
 AddCause commands name (Err Taken) = IsSome (command_named commands name)
-AddCause commands name (Err TooMany) = (command_named commands name ≡ None) × (map.len commands ≡ most_commands)
+AddCause commands name (Err TooMany) = (command_named commands name ≡ None)
+    × (map.len commands ≡ most_commands)
 AddCause commands name (Err Memory) = CanAdd commands name

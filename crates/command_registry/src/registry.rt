@@ -44,8 +44,8 @@ impl Registry {
         }
     }
 
-    /// Makes a command known: `Taken` exactly where one of its name is, whatever the case of its letters, else
-    /// `TooMany` exactly where 1,024 are known.
+    /// Makes a command known: `Taken` exactly where one of its name is, whatever the case of its
+    /// letters, else `TooMany` exactly where 1,024 are known.
     pub fn add(&mut self, spec: CommandSpec, owner: Owner) -> Result<(), RegisterFault>
         ensures added { OnOk result (self.new ≡ with_command self.old spec owner) }
         ensures cause { AddCause self.old spec.name.now result }

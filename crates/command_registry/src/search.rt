@@ -11,10 +11,12 @@ use crate::Owner;
 use core_types::CommandSpec;
 use std::cmp::Ordering;
 
-// The place of the command of this name, or where it would stand, by a search that halves what is left.
+// The place of the command of this name, or where it would stand, by a search that halves what is
+// left.
 pub(crate) fn place_of(commands: &[(CommandSpec, Owner)], name: &[u8]) -> Result<usize, usize>
     ensures bound { IsSearchInRange result (length commands.now) }
-    ensures found { IsBinarySearchResult (λ c. slice_cmp nat_cmp (name_of c) (upper_name name.now)) commands.now result }
+    ensures found { IsBinarySearchResult
+        (λ c. slice_cmp nat_cmp (name_of c) (upper_name name.now)) commands.now result }
 {
     commands.binary_search_by(|command| compare(command.0.name, name))
 }

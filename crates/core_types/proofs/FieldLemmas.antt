@@ -1,13 +1,15 @@
 -- What the fields of a hash are, of the entries of the map behind it. Serves the clauses of HashBody.
-use Rattle.std.proofs.Common.{◌≡◌, ℕ, zero, suc, ◌+◌, ◌<◌, ◌≤◌, Bool, true, false, List, [], ◌∷◌, ◌++◌, length, map, take, slice_get, Option, Some, None, if◌then◌else◌, unwrap_or, refl, sym, subst, ap, ◌∙◌, arith}
-use Rattle.std.proofs.lemmas.Option.{none-some}
+use Rattle.std.proofs.Common.{◌≡◌, ℕ, zero, suc, ◌+◌, ◌<◌, Bool, true, false, not, cond, nat_lt, position, List, [], ◌∷◌, length, map, take, slice_get, Option, Some, None, if◌then◌else◌, unwrap_or, refl, sym, subst, ap, ◌∙◌, arith}
+use Rattle.std.proofs.lemmas.Bool.{ltb-true}
+use Rattle.std.proofs.lemmas.Map.Entries.{length-keys_of}
+use Rattle.std.proofs.lemmas.Option.{none-some, same_Some}
 use Rattle.std.specs.Str.{bytes_eq}
 use Rattle.std.specs.Cmp.Lexicographic.{nat_list_eq_equiv}
-use Rattle.std.specs.List.{IsDistinct, AllByRecursion}
+use Rattle.std.specs.List.{IsDistinct, AllByRecursion, position_or_len}
 use Rattle.std.specs.Map.{lookup, remove_entry, keys_of}
 use Rattle.std.specs.declared.alloc.Global.{Global}
 use Rattle.std.specs.declared.vec.Vec.{Vec}
-use Rattle.indexmap.specs.IndexMap.{insert_entry}
+use Rattle.indexmap.specs.IndexMap.{insert_entry, set_value_at}
 use Rattle.core_types.specs.declared.field.Field.{Field}
 use Rattle.core_types.specs.Fields.{field_value, with_field, without_field, AreDistinct}
 use Rattle.core_types.specs.HashEntries.{fields_of}
@@ -15,6 +17,10 @@ use Rattle.core_types.specs.HashEntries.{fields_of}
 -- two vectors have the same bytes
 abbrev pub same_bytes : Vec ℕ Global → Vec ℕ Global → Bool
 same_bytes a b = bytes_eq a.items b.items
+
+-- the place of the first entry of a name, or the number of entries where there is none
+abbrev pub place_of : List ℕ → List (Vec ℕ Global × List ℕ) → ℕ
+place_of name entries = position_or_len (λ (k : Vec ℕ Global). bytes_eq name k.items) (keys_of entries)
 
 abbrev pub field_of : Vec ℕ Global × List ℕ → Field
 field_of entry = record { name = entry.0.items; value = entry.1 }
@@ -67,3 +73,36 @@ put_next (f ∷ fields) (suc n) field distinct at =
     let other = at_place (λ name. bytes_eq f.name name ≡ false) fields n field distinct.0 at in
     let test : bytes_eq field.name f.name ≡ false = nat_list_eq_equiv.symm field.name f.name ∙ other in
     rw test (ap (λ (rest : List Field). f ∷ rest) (put_next fields n field distinct.1 at))
+
+-- a value that is written at the place of a name is put
+pub fields_of-set : (entries : List (Vec ℕ Global × List ℕ)) (name value : List ℕ) → place_of name entries < length entries
+    → fields_of (set_value_at entries (place_of name entries) value) ≡ with_field (fields_of entries) (record { name = name; value = value })
+fields_of-set [] name value there = absurd (omega (arith, there))
+fields_of-set (entry ∷ entries) name value there = by (bytes_eq name entry.0.items) (fields_of-set entries name value) there
+  where
+    put : Field
+    put = record { name = name; value = value }
+
+    by : (b : Bool) → (place_of name entries < length entries → fields_of (set_value_at entries (place_of name entries) value) ≡ with_field (fields_of entries) put)
+        → cond (not b) (1 + place_of name entries) 0 < length (entry ∷ entries)
+        → fields_of (set_value_at (entry ∷ entries) (cond (not b) (1 + place_of name entries) 0) value)
+        ≡ (if b then (record (field_of entry) { value = value }) ∷ fields_of entries else field_of entry ∷ with_field (fields_of entries) put)
+    by true rest h = refl
+    by false rest h =
+        let next : 1 + place_of name entries ≡ suc (place_of name entries) = omega arith in
+        rw next (ap (λ (fields : List Field). field_of entry ∷ fields) (rest (omega (arith, h))))
+
+-- and so is one that is written at a place which a search for the name gave
+pub put_at : (entries : List (Vec ℕ Global × List ℕ)) (name value : List ℕ) (place : ℕ)
+    → Some place ≡ position (λ (k : Vec ℕ Global). bytes_eq name k.items) (keys_of entries)
+    → fields_of (set_value_at entries place value) ≡ with_field (fields_of entries) (record { name = name; value = value })
+put_at entries name value place found =
+    by (nat_lt (place_of name entries) (length (keys_of entries))) refl found
+  where
+    by : (b : Bool) → nat_lt (place_of name entries) (length (keys_of entries)) ≡ b → Some place ≡ cond b (Some (place_of name entries)) None
+        → fields_of (set_value_at entries place value) ≡ with_field (fields_of entries) (record { name = name; value = value })
+    by true within is =
+        let below = ltb-true (place_of name entries) (length (keys_of entries)) within in
+        let long = length-keys_of entries in
+        rw (same_Some place (place_of name entries) is) (fields_of-set entries name value (omega (arith, below, long)))
+    by false within is = absurd (none-some place (sym is))

@@ -1,7 +1,6 @@
 -- What the words over the keys say of each other. Serves the laws `keys_by_key` and `keyspace_is_kept`.
-use Rattle.std.proofs.Common.{◌≡◌, ℕ, ◌+◌, ◌-◌, Bool, true, false, List, Option, Some, None, is_some, unwrap_or, if◌then◌else◌, refl, sym, ap, subst, ◌∙◌, true≢false}
+use Rattle.std.proofs.Common.{◌≡◌, ℕ, ◌+◌, ◌-◌, Bool, true, false, List, Option, Some, None, is_some, unwrap_or, if◌then◌else◌, refl, sym, ap, subst, ◌∙◌}
 use Rattle.std.proofs.lemmas.Option.{none-some}
-use Rattle.std.specs.FinMap as map
 use Rattle.std.specs.Option.{option_and_then}
 use Rattle.std.specs.FinMap.{get-empty, get-insert, get-remove, len-insert, len-remove, same_map, nat_cmp-IsAntisymmetric, slice_cmp-IsAntisymmetric}
 use Rattle.std.specs.Ordering.{nat_cmp}
@@ -9,9 +8,8 @@ use Rattle.std.specs.Cmp.Lexicographic.{slice_cmp, nat_list_cmp_total, bytes_dec
 use Rattle.std.specs.Str.{bytes_eq}
 use Rattle.std.proofs.lemmas.Map.Text.{is_eq-slice_cmp}
 use Rattle.core_types.specs.declared.value.Value.{Value}
-use Rattle.core_types.specs.Keys.{Entry, KeysOf, entry_at, deadline_at, with_entry, with_value, with_changed, with_due, with_deadline, without, with_moved, renamed, key_count, no_keys}
+use Rattle.core_types.specs.Keys.{Entry, KeysOf, entry_at, deadline_at, with_entry, with_changed, with_due, with_deadline, without, with_moved, renamed, key_count, no_keys}
 use Rattle.core_types.specs.Keyspace.{IsString, IsValue, IsDeadline, IsEntry, IsKeyspace}
-use Rattle.core_types.specs.KeyLaws.{KeyspaceIsKept}
 
 module _ {N : Type 0} where
   pub entry_at-with_entry : (keys : KeysOf N) (key : List ℕ) (entry : Entry N) (other : List ℕ) → entry_at (with_entry keys key entry) other ≡ (if bytes_eq other key then Some entry else entry_at keys other)

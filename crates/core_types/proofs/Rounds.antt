@@ -1,11 +1,11 @@
 -- A walk round a list. Serves clause `left` of ListBody::remove_first and remove_last.
-use Rattle.std.proofs.Common.{◌≡◌, ℕ, zero, suc, ◌+◌, ◌-◌, ◌≤◌, ◌<◌, ◌⊎◌, inl, inr, Bool, true, false, List, [], ◌∷◌, ◌++◌, length, take, drop, if◌then◌else◌, ◌&&◌, nat_lt, slice_index_or, true≢false, refl, sym, ap, subst, ◌∙◌, arith, append_assoc}
+use Rattle.std.proofs.Common.{◌≡◌, ℕ, zero, suc, ◌+◌, ◌-◌, ◌≤◌, ◌<◌, ◌⊎◌, inl, inr, Bool, true, false, List, [], ◌∷◌, ◌++◌, length, take, drop, if◌then◌else◌, ◌&&◌, nat_lt, slice_index_or, true≢false, refl, sym, ap, arith, append_assoc}
 use Rattle.std.proofs.lemmas.Bool.{ltb-true, ltb-false}
 use Rattle.std.proofs.lemmas.List.{take-append-le, drop-append-le}
 use Rattle.std.specs.Str.{bytes_eq}
 use Rattle.core_types.specs.Equal.{without_first, turned_list}
 
--- what stays so far, and what will stay of so many more, where so many may still go
+-- what stays so far, and what will stay of `more` others, of which `may` may still go
 abbrev pub going_round : ℕ → ℕ → List ℕ → List (List ℕ) → List (List ℕ)
 going_round more may item items = drop more items ++ without_first may item (take more items)
 

@@ -12,7 +12,8 @@ pub record HasCause {T E : Type 0} (before now : ℕ) (result : Result T E) : Ty
   pub failed : OnErr result (now ≡ one_more before)
 
 -- the same, where this one error alone speaks of a fault
-pub record HasCauseFor {T E : Type 0} (fault : E) (before now : ℕ) (result : Result T E) : Type 0 where
+pub record HasCauseFor {T E : Type 0} (fault : E) (before now : ℕ) (result : Result T E)
+    : Type 0 where
   pub later : before ≤ now
   pub kept : result ≢ Err fault → now ≡ before
   pub failed : result ≡ Err fault → now ≡ one_more before

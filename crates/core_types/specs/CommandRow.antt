@@ -2,7 +2,8 @@
 use Rattle.std.specs.Prelude.{ℕ, ℤ, pos, negsuc, ◌+◌, ◌==◌, nat_le, Bool, IsTrue, List, length}
 use Rattle.core_types.specs.declared.command_spec.CommandSpec.{CommandSpec}
 
--- its name, its number of words, whether it is written into a log, and the place of its key among the words
+-- its name, its number of words, whether it is written into a log, and the place of its key among
+-- the words
 pub record CommandRow : Type 0 where
   pub name : List ℕ
   pub arity : ℤ
@@ -13,7 +14,8 @@ abbrev pub row_of_spec : CommandSpec → CommandRow
 row_of_spec spec =
     record { name = spec.name.now; arity = spec.arity; writes = spec.writes; key = spec.key }
 
--- so many words are taken: the arity, or where it is below 0 at least as many without its sign
+-- whether this number of words is taken: the arity, or where it is below 0 at least as many without
+-- its sign
 abbrev pub takes : ℤ → ℕ → Bool
 takes (pos n) count = count == n
 takes (negsuc n) count = nat_le (n + 1) count

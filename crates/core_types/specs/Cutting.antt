@@ -6,7 +6,8 @@ abbrev pub range_start : ℕ → ℤ → ℕ
 range_start size (pos n) = n
 range_start size (negsuc n) = size - (n + 1)
 
--- the place before which it ends: the one after the last that is meant, and after the end there is none
+-- the place before which it ends: the one after the last that is meant, and after the end there is
+-- none
 abbrev pub range_end : ℕ → ℤ → ℕ
 range_end size (pos n) = min (n + 1) size
 range_end size (negsuc n) = size - n

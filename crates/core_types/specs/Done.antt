@@ -38,13 +38,14 @@ module _ {B : Type 0} where
   changed (Change.IsSet body) old = Some body
   changed Change.Goes old = None
 
-  -- An answer makes a change, where a value that was there is `now` in place of `old`: a value that changes is
-  -- changed in place, and one that is new or set is put.
+  -- An answer makes a change, where a value that was there is `now` in place of `old`: a value that
+  -- changes is changed in place, and one that is new or set is put. One that is to be put in place of
+  -- another leaves that as it is.
   abbrev pub Makes : After B → Option B → Option B → Change B → Type 0
   Makes after.Keep old now Change.Stays = now ≡ old
   Makes after.Keep old now (Change.Becomes body) = now ≡ Some body
   Makes (after.Put new) None now (Change.Becomes body) = new ≡ body
-  Makes (after.Put new) old now (Change.IsSet body) = new ≡ body
+  Makes (after.Put new) old now (Change.IsSet body) = (new ≡ body) × (now ≡ old)
   Makes after.Remove old now Change.Goes = ⊤
   Makes _ old now _ = ⊥
 

@@ -2,7 +2,7 @@
 use Rattle.std.specs.Prelude.{ℕ, zero, suc, Bool, List, [], ◌∷◌, ◌++◌, take, drop, reverse, if◌then◌else◌}
 use Rattle.std.specs.Str.{bytes_eq}
 
--- the list without its first items that are equal to this one, so many at most
+-- the list without its first items that are equal to this one, `most` of them at most
 abbrev pub without_first : ℕ → List ℕ → List (List ℕ) → List (List ℕ)
 without_first most item [] = []
 without_first zero item (x ∷ xs) = x ∷ xs

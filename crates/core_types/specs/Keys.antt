@@ -1,4 +1,5 @@
--- The keys: a finite map from byte strings to values with deadlines. All else speaks of them through these words.
+-- The keys: a finite map from byte strings to values with deadlines. All else speaks of them through
+-- these words.
 use Rattle.std.specs.Prelude.{ℕ, List, Option, None, Some}
 use Rattle.std.specs.Option.{option_and_then, option_map}
 use Rattle.std.specs.Ordering.{nat_cmp}
@@ -51,12 +52,14 @@ module _ {N : Type 0} where
 
   -- a key's value is changed: it has this value, and keeps the deadline that it had
   abbrev pub with_changed : KeysOf N → List ℕ → Value N → KeysOf N
-  with_changed keys key value = with_entry keys key (record { value = value; deadline = deadline_at keys key })
+  with_changed keys key value =
+      with_entry keys key (record { value = value; deadline = deadline_at keys key })
 
   -- a key gets this deadline, or none, where this is what it has
   abbrev pub with_due : KeysOf N → List ℕ → Option ℕ → Option (Entry N) → KeysOf N
   with_due keys key deadline None = keys
-  with_due keys key deadline (Some entry) = with_entry keys key (record entry { deadline = deadline })
+  with_due keys key deadline (Some entry) =
+      with_entry keys key (record entry { deadline = deadline })
 
   -- a key that is there gets this deadline, or none
   abbrev pub with_deadline : KeysOf N → List ℕ → Option ℕ → KeysOf N

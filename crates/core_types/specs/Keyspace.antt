@@ -1,4 +1,5 @@
--- What the keys may be: no empty list or hash, no string above the limit, and deadlines that a file can store.
+-- What the keys may be: no empty list or hash, no string above the limit, and deadlines that a file
+-- can store.
 use Rattle.std.specs.Prelude.{◌≡◌, ◌<◌, ◌≤◌, ◌^◌, ⊤, ℕ, Bool, IsTrue, List, length, Option, Some, None}
 use Rattle.std.specs.List.{AllByRecursion}
 use Rattle.core_types.specs.declared.field.Field.{Field}
@@ -26,11 +27,13 @@ module _ {N : Type 0} (allowed : N → Bool) where
   abbrev pub IsValue : Value N → Type 0
   IsValue (value.Str text) = IsString text
   IsValue (value.List items) = (0 < length items) × AllByRecursion IsString items
-  IsValue (value.Hash fields) = (0 < length fields) × AllByRecursion IsFieldOfStrings fields × AreDistinct fields
+  IsValue (value.Hash fields) =
+      (0 < length fields) × AllByRecursion IsFieldOfStrings fields × AreDistinct fields
   IsValue (value.Native native) = IsTrue (allowed native)
 
   abbrev pub IsEntry : Entry N → Type 0
   IsEntry entry = IsValue entry.value × IsDeadline entry.deadline
 
   abbrev pub IsKeyspace : KeysOf N → Type 0
-  IsKeyspace keys = (key : List ℕ) (entry : Entry N) → entry_at keys key ≡ Some entry → IsString key × IsEntry entry
+  IsKeyspace keys =
+      (key : List ℕ) (entry : Entry N) → entry_at keys key ≡ Some entry → IsString key × IsEntry entry

@@ -8,7 +8,8 @@ use Rattle.core_types.specs.declared.reply.Reply.{Reply}
 use Rattle.core_types.specs.declared.reply.Reply.TheVariants as replies
 
 abbrev pub refusal_text : Refusal → List ℕ
-refusal_text refusals.WrongType = codes "WRONGTYPE Operation against a key holding the wrong kind of value"
+refusal_text refusals.WrongType =
+    codes "WRONGTYPE Operation against a key holding the wrong kind of value"
 refusal_text refusals.NotAnInteger = codes "ERR value is not an integer or out of range"
 refusal_text refusals.HashNotAnInteger = codes "ERR hash value is not an integer"
 refusal_text refusals.Overflow = codes "ERR increment or decrement would overflow"
@@ -26,11 +27,13 @@ refused refusal = replies.Error (refusal_text refusal)
 -- of a command by its name, in any case of letters
 abbrev pub wrong_arity : List ℕ → Reply
 wrong_arity name =
-    replies.Error (map printable (codes "ERR wrong number of arguments for '" ++ map to_ascii_lowercase name ++ codes "' command"))
+    replies.Error (map printable
+    (codes "ERR wrong number of arguments for '" ++ map to_ascii_lowercase name ++ codes "' command"))
 
 abbrev pub invalid_expire : List ℕ → Reply
 invalid_expire name =
-    replies.Error (map printable (codes "ERR invalid expire time in '" ++ map to_ascii_lowercase name ++ codes "' command"))
+    replies.Error (map printable
+    (codes "ERR invalid expire time in '" ++ map to_ascii_lowercase name ++ codes "' command"))
 
 -- of the name as it came, of which the first 128 bytes are told
 abbrev pub unknown_command : List ℕ → Reply

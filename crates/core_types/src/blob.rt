@@ -108,8 +108,8 @@ impl Blob {
         Ok(())
     }
 
-    /// Takes memory for so many bytes more, so that adding them takes none. What is longer than 64 KiB gets
-    /// just what it needs.
+    /// Takes memory for this number of bytes more, so that adding them takes none. What is longer
+    /// than 64 KiB gets just what it needs.
     pub fn reserve(&mut self, more: usize) -> Result<(), NoMemory>
         ensures same { self.new ≡ self.old }
     {
@@ -135,7 +135,8 @@ impl Blob {
     /// Writes bytes over those that stand from `place` on. Takes no memory.
     pub fn overwrite(&mut self, place: usize, bytes: &[u8])
         requires { place + length bytes.now ≤ length self.old }
-        ensures written { self.new ≡ take place self.old ++ bytes.now ++ drop (place + length bytes.now) self.old }
+        ensures written { self.new
+            ≡ take place self.old ++ bytes.now ++ drop (place + length bytes.now) self.old }
     {
         write_over(&mut self.bytes, place, bytes);
     }
@@ -163,7 +164,8 @@ impl Blob {
 // Writes bytes over those that stand from `place` on.
 fn write_over(bytes: &mut [u8], place: usize, piece: &[u8])
     requires { place + length piece.now ≤ length bytes.old }
-    ensures { bytes.new ≡ take place bytes.old ++ piece.now ++ drop (place + length piece.now) bytes.old }
+    ensures { bytes.new
+        ≡ take place bytes.old ++ piece.now ++ drop (place + length piece.now) bytes.old }
 {
     let whole = bytes.len();
     prove!(place <= whole);

@@ -17,7 +17,7 @@ pub struct CommandSpec {
 }
 
 impl CommandSpec {
-    /// Whether a request may have so many words.
+    /// Whether a request may have this number of words.
     pub fn takes(&self, count: usize) -> bool
         ensures takes { result ≡ takes self.now.arity count }
     {

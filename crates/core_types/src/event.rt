@@ -81,9 +81,9 @@ pub enum Answer {
     RewriteRunning,
     /// No rewrite is under way.
     NoRewrite,
-    /// So many keys are left to be rewritten.
+    /// This number of keys is left to be rewritten.
     Left(u64),
-    /// The rewrite cannot end: so many keys are left.
+    /// The rewrite cannot end: this number of keys is left.
     KeysLeft(u64),
     /// The log was rewritten, and has this length.
     Rewritten(u64),

@@ -1,8 +1,8 @@
 //! The value of a hash: fields in order of insertion, found by name.
 
-ghost use Rattle.std.specs.Prelude.{◌≡◌, ◌==◌, ◌+◌, ◌<◌, ◌≤◌, List, ℕ, [], ◌∷◌, length, is_some, slice_get, IfOk, OnOk, OnErr};
+ghost use Rattle.std.specs.Prelude.{◌≡◌, ◌==◌, ◌+◌, ◌<◌, ◌≤◌, ◌^◌, List, ℕ, [], ◌∷◌, length, is_some, slice_get, IfOk, OnOk, OnErr};
 ghost use Rattle.std.specs.Option.{option_copied, option_map};
-ghost use Rattle.indexmap.specs.IndexMap.{spare};
+ghost use Rattle.indexmap.specs.IndexMap.{index_map_len, set_value_at, spare, values};
 ghost use Rattle.core_types.specs.HashEntries.{fields_of};
 ghost use Rattle.core_types.specs.Fields.{field_value, with_field, with_fields, without_field, AreDistinct};
 
@@ -12,9 +12,11 @@ use std::alloc::Global;
 use std::collections::VecDeque;
 use std::hash::RandomState;
 use std::marker::Model;
+use std::mem;
 
-/// Fields in order of insertion, with distinct names. Finding a name and putting a field cost O(1) expected,
-/// under any names: they are hashed with the keys that `new` was given, which clients don't know.
+/// Fields in order of insertion, with distinct names. Finding a name and putting a field cost O(1)
+/// expected, under any names: they are hashed with the keys that `new` was given, which clients don't
+/// know.
 #[derive(Debug, Drop)]
 pub struct HashBody {
     fields: IndexMap<Vec<u8>, Blob, RandomState>,
@@ -44,6 +46,7 @@ impl HashBody {
     /// The number of fields.
     pub fn len(&self) -> usize
         ensures length { result ≡ length self.now }
+        ensures bounded { length self.now < 2 ^ 63 }
         ensures distinct { AreDistinct self.now }
     {
         self.fields.len()
@@ -65,7 +68,8 @@ impl HashBody {
 
     /// The name of the field at a place, counted from 0, or `None` past the end.
     pub fn name_at(&self, place: usize) -> Option<&[u8]>
-        ensures at { option_copied result ≡ option_map (λ field. field.name) (slice_get self.now place) }
+        ensures at { option_copied result
+            ≡ option_map (λ field. field.name) (slice_get self.now place) }
     {
         let (name, _) = self.fields.get_index(place)?;
         Some(name.as_slice())
@@ -73,25 +77,32 @@ impl HashBody {
 
     /// The value of the field at a place, counted from 0, or `None` past the end.
     pub fn value_at(&self, place: usize) -> Option<&Blob>
-        ensures at { option_copied result ≡ option_map (λ field. field.value) (slice_get self.now place) }
+        ensures at { option_copied result
+            ≡ option_map (λ field. field.value) (slice_get self.now place) }
     {
         let (_, value) = self.fields.get_index(place)?;
         Some(value)
     }
 
-    /// Puts a field: a name that is there gets the value, in place of the one that is given back, and a new
-    /// name goes last. On an `Err` the value is dropped.
+    /// Puts a field: a name that is there gets the value, in place of the one that is given back, and
+    /// takes no memory; a new name goes last. On an `Err` the value is dropped.
     pub fn put(&mut self, alloc: Global, name: &[u8], value: Blob) -> Result<Option<Blob>, NoMemory>
         ensures before { IfOk result (λ before. before ≡ field_value self.old name.now) }
-        ensures ok { OnOk result (self.new ≡ with_field self.old (record { name = name.now; value = value })) }
+        ensures ok { OnOk result
+            (self.new ≡ with_field self.old (record { name = name.now; value = value })) }
         ensures err { OnErr result (self.new ≡ self.old) }
     {
-        let name = Vec::from_slice(alloc, name)?;
-        Ok(self.fields.insert(name, value)?)
+        match self.fields.get_index_of(name) {
+            Some(place) => Ok(Some(replace(&mut self.fields, place, value))),
+            None => {
+                let name = Vec::from_slice(alloc, name)?;
+                Ok(self.fields.insert(name, value)?)
+            }
+        }
     }
 
-    /// Takes out a name: its value, where there was one. The other fields keep their order. Takes no memory,
-    /// and moves the fields behind it.
+    /// Takes out a name: its value, where there was one. The other fields keep their order. Takes no
+    /// memory, and moves the fields behind it.
     pub fn remove(&mut self, name: &[u8]) -> Option<Blob>
         ensures before { result ≡ field_value self.old name.now }
         ensures left { self.new ≡ without_field self.old name.now }
@@ -138,7 +149,8 @@ fn copied(alloc: Global, fields: &Map) -> Result<Map, NoMemory>
 }
 
 fn put_all(fields: &mut Map, more: Vec<Field>) -> Result<(), NoMemory>
-    ensures ok { OnOk result (fields_of fields.new.entries ≡ with_fields (fields_of fields.old.entries) more.items) }
+    ensures ok { OnOk result
+        (fields_of fields.new.entries ≡ with_fields (fields_of fields.old.entries) more.items) }
     ensures err { OnErr result (fields_of fields.new.entries ≡ fields_of fields.old.entries) }
 {
     let mut more = VecDeque::from_vec(more);
@@ -147,6 +159,16 @@ fn put_all(fields: &mut Map, more: Vec<Field>) -> Result<(), NoMemory>
         put_reserved(fields, field);
     }
     Ok(())
+}
+
+// Puts a value in the place of another, which is given back.
+fn replace(fields: &mut Map, place: usize, value: Blob) -> Blob
+    requires { place < index_map_len fields.old }
+    ensures before { slice_get (values fields.old) place ≡ Some result }
+    ensures written { fields.new.entries ≡ set_value_at fields.old.entries place value }
+{
+    let (_, there) = fields.pair_mut(place);
+    mem::replace(there, value)
 }
 
 // Puts a field where there is room for it.

@@ -1,6 +1,6 @@
 //! The value of a list: byte strings in order, quick at both ends.
 
-ghost use Rattle.std.specs.Prelude.{◌≡◌, ◌==◌, ◌+◌, ◌<◌, ◌≤◌, ◌++◌, List, ℕ, [], ◌∷◌, length, ◌&&◌, slice_get, slice_set, slice_range, slice_index_or, reverse, if◌then◌else◌, IfOk, OnOk, OnErr};
+ghost use Rattle.std.specs.Prelude.{◌≡◌, ◌==◌, ◌+◌, ◌<◌, ◌≤◌, ◌^◌, ◌++◌, List, ℕ, [], ◌∷◌, length, ◌&&◌, slice_get, slice_set, slice_range, slice_index_or, reverse, if◌then◌else◌, IfOk, OnOk, OnErr};
 ghost use Rattle.std.specs.Option.{option_copied, option_to_list};
 ghost use Rattle.std.specs.VecDeque.{deque_len};
 ghost use Rattle.std.specs.Str.{bytes_eq};
@@ -46,6 +46,7 @@ impl ListBody {
     /// The number of items.
     pub fn len(&self) -> usize
         ensures length { result ≡ length self.now }
+        ensures bounded { length self.now < 2 ^ 63 }
     {
         self.items.len()
     }
@@ -98,8 +99,8 @@ impl ListBody {
         self.items.pop_back()
     }
 
-    /// Adds items at the front, one after the other, so that the last of them comes first. All of them are
-    /// added or none.
+    /// Adds items at the front, one after the other, so that the last of them comes first. All of
+    /// them are added or none.
     pub fn extend_front(&mut self, items: Sequence<Blob>) -> Result<(), NoMemory>
         ensures ok { OnOk result (self.new ≡ reverse items ++ self.old) }
         ensures err { OnErr result (self.new ≡ self.old) }
@@ -135,8 +136,8 @@ impl ListBody {
         keep_range(&mut self.items, start, end);
     }
 
-    /// Takes out the first items that are equal to this one, `most` of them or as many as there are: how
-    /// many. Takes no memory.
+    /// Takes out the first items that are equal to this one, `most` of them or as many as there are:
+    /// how many. Takes no memory.
     pub fn remove_first(&mut self, most: usize, item: &[u8]) -> usize
         ensures left { self.new ≡ without_first most item.now self.old }
         ensures count { result + length self.new ≡ length self.old }
@@ -144,8 +145,8 @@ impl ListBody {
         remove_first(&mut self.items, most, item)
     }
 
-    /// Takes out the last items that are equal to this one, `most` of them or as many as there are: how
-    /// many. Takes no memory.
+    /// Takes out the last items that are equal to this one, `most` of them or as many as there are:
+    /// how many. Takes no memory.
     pub fn remove_last(&mut self, most: usize, item: &[u8]) -> usize
         ensures left { self.new ≡ without_last most item.now self.old }
         ensures count { result + length self.new ≡ length self.old }
@@ -204,7 +205,8 @@ fn keep_range(items: &mut VecDeque<Blob>, start: usize, end: usize)
     }
 }
 
-// Goes round the list once: behind the items that are to be looked at, so many more, stand those that stay.
+// Goes round the list once: behind the `more` items that are still to be looked at stand those that
+// stay.
 fn remove_first(items: &mut VecDeque<Blob>, most: usize, item: &[u8]) -> usize
     ensures left { items.new.items ≡ without_first most item.now items.old.items }
     ensures count { result + deque_len items.new ≡ deque_len items.old }
@@ -220,7 +222,8 @@ fn remove_first(items: &mut VecDeque<Blob>, most: usize, item: &[u8]) -> usize
     removed
 }
 
-// Takes out the first item where it may go and is equal to this one: whether it was. Else it goes last.
+// Takes out the first item where it may go and is equal to this one: whether it was. Else it goes
+// last.
 fn turn_first(items: &mut VecDeque<Blob>, may_go: bool, item: &[u8]) -> bool
     requires { 0 < deque_len items.old }
     ensures gone { result ≡ (may_go && bytes_eq (slice_index_or items.old.items 0 []) item.now) }
@@ -251,10 +254,12 @@ fn remove_last(items: &mut VecDeque<Blob>, most: usize, item: &[u8]) -> usize
     removed
 }
 
-// Takes out the last item where it may go and is equal to this one: whether it was. Else it goes first.
+// Takes out the last item where it may go and is equal to this one: whether it was. Else it goes
+// first.
 fn turn_last(items: &mut VecDeque<Blob>, may_go: bool, item: &[u8]) -> bool
     requires { 0 < deque_len items.old }
-    ensures gone { result ≡ (may_go && bytes_eq (slice_index_or (reverse items.old.items) 0 []) item.now) }
+    ensures gone { result
+        ≡ (may_go && bytes_eq (slice_index_or (reverse items.old.items) 0 []) item.now) }
     ensures turned { reverse items.new.items ≡ turned_list result (reverse items.old.items) }
     ensures count { (if result then 1 else 0) + deque_len items.new ≡ deque_len items.old }
 {

@@ -33,7 +33,8 @@ pub struct Outcome<B> {
 impl<B: Drop> Outcome<B> {
     /// Nothing changes, and this is replied. Takes no memory.
     pub fn answer(alloc: Global, reply: Reply) -> Outcome<B>
-        ensures answers { result ≡ record { body = After.Keep; reply = reply; effects = []; notes = [] } }
+        ensures answers { result
+            ≡ record { body = After.Keep; reply = reply; effects = []; notes = [] } }
     {
         Outcome {
             body: After::Keep,
@@ -45,8 +46,8 @@ impl<B: Drop> Outcome<B> {
 
     /// Nothing changes, and the reply is this error.
     pub fn refuse(alloc: Global, refusal: Refusal) -> Result<Outcome<B>, NoMemory>
-        ensures refuses { IfOk result
-            (λ o. o ≡ record { body = After.Keep; reply = refused refusal; effects = []; notes = [] }) }
+        ensures refuses { IfOk result (λ o. o
+            ≡ record { body = After.Keep; reply = refused refusal; effects = []; notes = [] }) }
     {
         Ok(Outcome::answer(alloc, refusal.reply(alloc)?))
     }
@@ -59,8 +60,8 @@ impl<B: Drop> Outcome<B> {
         effect: Effect,
         note: Note,
     ) -> Result<Outcome<B>, NoMemory>
-        ensures changes { IfOk result
-            (λ o. o ≡ record { body = body; reply = reply; effects = effect ∷ []; notes = note ∷ [] }) }
+        ensures changes { IfOk result (λ o. o
+            ≡ record { body = body; reply = reply; effects = effect ∷ []; notes = note ∷ [] }) }
     {
         let mut effects = Effects::new(alloc);
         effects.push(effect)?;

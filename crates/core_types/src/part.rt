@@ -18,7 +18,7 @@ pub enum Part {
     Null,
     /// No array.
     NullArray,
-    /// An array of so many replies, whose parts come next.
+    /// An array of this number of replies, whose parts come next.
     ArrayOf(u64),
 }
 

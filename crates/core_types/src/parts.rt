@@ -31,7 +31,8 @@ fn push_part(parts: &mut Vec<Part>, part: Part) -> Result<(), NoMemory>
 
 // An array's header, and then the parts of its replies.
 fn push_array(parts: &mut Vec<Part>, replies: Replies) -> Result<(), NoMemory>
-    ensures ok { OnOk result (parts.new.items ≡ parts.old.items ++ Part.ArrayOf replies.count ∷ replies.parts) }
+    ensures ok { OnOk result (parts.new.items
+        ≡ parts.old.items ++ Part.ArrayOf replies.count ∷ replies.parts) }
     ensures err { OnErr result (parts.new.items ≡ parts.old.items) }
 {
     let (count, mut inner) = replies.into_parts();

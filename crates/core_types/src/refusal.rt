@@ -91,12 +91,13 @@ pub fn unknown_command(alloc: Global, name: &[u8]) -> Result<Reply, NoMemory>
     Reply::error(alloc, text.as_slice())
 }
 
-// So many bytes of an unknown name are told.
+// The number of bytes of an unknown name that are told.
 const SHOWN: usize = 128;
 
 // A text, the name in lower case, and the end of such errors.
 fn around_name(alloc: Global, before: &[u8], name: &[u8]) -> Result<Blob, NoMemory>
-    ensures text { IfOk result (λ text. text ≡ before.now ++ map to_ascii_lowercase name.now ++ codes "' command") }
+    ensures text { IfOk result
+        (λ text. text ≡ before.now ++ map to_ascii_lowercase name.now ++ codes "' command") }
 {
     let mut text = Blob::from_slice(alloc, before)?;
     let lower: Vec<u8> = name

@@ -13,7 +13,7 @@ abbrev pub steps_of : List ℕ → Change → ℕ
 steps_of bytes (Change.Added more) = length more
 steps_of bytes (Change.CutTo kept) = length bytes - kept
 
--- the bytes after its first steps, so many, or all
+-- the bytes after this many of its first steps, or all
 abbrev pub stepped : ℕ → List ℕ → Change → List ℕ
 stepped steps bytes (Change.Added more) = bytes ++ take steps more
 stepped steps bytes (Change.CutTo kept) = take (max kept (length bytes - steps)) bytes
@@ -21,20 +21,23 @@ stepped steps bytes (Change.CutTo kept) = take (max kept (length bytes - steps))
 -- and after the first steps of several changes, in order
 abbrev pub after_steps : ℕ → List ℕ → List Change → List ℕ
 after_steps steps bytes [] = bytes
-after_steps steps bytes (change ∷ more) = after_steps (steps - steps_of bytes change) (stepped steps bytes change) more
+after_steps steps bytes (change ∷ more) =
+    after_steps (steps - steps_of bytes change) (stepped steps bytes change) more
 
 -- the bytes of a name, with the first steps of what is unsynced of its file
 abbrev pub chosen_file : FileName → ℕ → Names → List Stored → Option (List ℕ)
-chosen_file name steps names files = option_map (λ file. after_steps steps file.synced file.changes) (stored name names files)
+chosen_file name steps names files =
+    option_map (λ file. after_steps steps file.synced file.changes) (stored name names files)
 
 -- what the choice leaves of a disk
 abbrev pub chosen_of : Choice → Disk → Files
-chosen_of choice disk = let names = after_renames disk.names (take choice.names disk.renames) in record {
-  log = chosen_file Log choice.log names disk.files;
-  log_temp = chosen_file LogTemp choice.log_temp names disk.files;
-  dump = chosen_file Dump choice.dump names disk.files;
-  dump_temp = chosen_file DumpTemp choice.dump_temp names disk.files;
-}
+chosen_of choice disk = let names =
+    after_renames disk.names (take choice.names disk.renames) in record {
+      log = chosen_file Log choice.log names disk.files;
+      log_temp = chosen_file LogTemp choice.log_temp names disk.files;
+      dump = chosen_file Dump choice.dump names disk.files;
+      dump_temp = chosen_file DumpTemp choice.dump_temp names disk.files;
+    }
 
 -- what it leaves at its moment
 abbrev pub chosen : Choice → Past → Files

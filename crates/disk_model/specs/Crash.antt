@@ -7,9 +7,10 @@ use Rattle.disk_model.specs.Safe.{IsSettled}
 use Rattle.disk_model.specs.declared.file_name.FileName.{FileName}
 use Rattle.disk_model.specs.declared.file_name.FileName.TheVariants.{Log, LogTemp, Dump, DumpTemp}
 
--- An image of the disk in which the file of the name is whole, as it reads, but that this was done to it. Where the name is not settled
--- the file may stand under another name there.
-pub record IsChangedImage (name : FileName) (change : FileName → Files → Files) (disk : Disk) (image : Files) : Type 0 where
+-- An image of the disk in which the file of the name is whole, as it reads, but that this was done
+-- to it. Where the name is not settled the file may stand under another name there.
+pub record IsChangedImage (name : FileName) (change : FileName → Files → Files) (disk : Disk)
+    (image : Files) : Type 0 where
   pub before : Files
   pub leaves : Leaves disk before
   pub under : FileName

@@ -5,7 +5,7 @@ use Rattle.disk_model.specs.Files.{Files}
 use Rattle.disk_model.specs.declared.file_name.FileName.{FileName}
 use Rattle.disk_model.specs.declared.file_name.FileName.TheVariants.{Log, LogTemp, Dump, DumpTemp}
 
--- a change of a file's bytes: some were added at its end, or only so many were kept of them
+-- a change of a file's bytes: some were added at its end, or only this many of them were kept
 pub data Change : Type 0 where
   Added : (bytes : List ℕ) → Change
   CutTo : (length : ℕ) → Change
@@ -60,13 +60,15 @@ pub data NameChange : Type 0 where
 -- the names after a change. What the other name stood for is gone.
 abbrev pub renamed : Names → NameChange → Names
 renamed names (NameChange.Created name number) = with_number name (Some number) names
-renamed names (NameChange.Renamed from to) = with_number to (number_of from names) (with_number from None names)
+renamed names (NameChange.Renamed from to) =
+    with_number to (number_of from names) (with_number from None names)
 
 abbrev pub after_renames : Names → List NameChange → Names
 after_renames names [] = names
 after_renames names (change ∷ more) = after_renames (renamed names change) more
 
--- A disk: the synced names, the changes of names since, and every file that was ever made, by its number.
+-- A disk: the synced names, the changes of names since, and every file that was ever made, by its
+-- number.
 pub record Disk : Type 0 where
   pub names : Names
   pub renames : List NameChange
@@ -109,13 +111,14 @@ with_changed change (Some number) files = with_stored change number files
 
 -- the same disk, but for the file of a name
 abbrev pub on_file : FileName → (Stored → Stored) → Disk → Disk
-on_file name change disk = record disk { files = with_changed change (number_of name (names_now disk)) disk.files }
+on_file name change disk =
+    record disk { files = with_changed change (number_of name (names_now disk)) disk.files }
 
 -- What a call does: bytes come to the end of a file
 abbrev pub appended : FileName → List ℕ → Disk → Disk
 appended name bytes disk = on_file name (with_change (Change.Added bytes)) disk
 
--- a file is cut to its first bytes, so many
+-- a file is cut to this many of its first bytes
 abbrev pub cut_to : FileName → ℕ → Disk → Disk
 cut_to name length disk = on_file name (with_change (Change.CutTo length)) disk
 
@@ -125,7 +128,12 @@ synced name disk = on_file name made_safe disk
 
 -- a name stands for a new and empty file
 abbrev pub created : FileName → Disk → Disk
-created name disk = record disk { renames = disk.renames ++ NameChange.Created name (length disk.files) ∷ []; files = disk.files ++ settled [] ∷ [] }
+created name disk = record disk {
+  renames =
+      disk.renames ++ NameChange.Created name (length disk.files) ∷ [];
+  files =
+      disk.files ++ settled [] ∷ [];
+}
 
 -- a file moves to another name
 abbrev pub moved : FileName → FileName → Disk → Disk
@@ -155,5 +163,6 @@ settled_disk files = record {
     dump_temp = if_there files.dump_temp 3;
   };
   renames = [];
-  files = settled_or_empty files.log ∷ settled_or_empty files.log_temp ∷ settled_or_empty files.dump ∷ settled_or_empty files.dump_temp ∷ [];
+  files = settled_or_empty files.log ∷ settled_or_empty files.log_temp
+      ∷ settled_or_empty files.dump ∷ settled_or_empty files.dump_temp ∷ [];
 }

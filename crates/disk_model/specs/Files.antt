@@ -37,7 +37,7 @@ with_file name bytes files = put name (Some bytes) files
 abbrev pub with_appended : FileName → List ℕ → Files → Files
 with_appended name bytes files = put name (option_map (λ old. old ++ bytes) (file name files)) files
 
--- the same files, but for one that has only its first bytes, so many
+-- the same files, but for one that has only this many of its first bytes
 abbrev pub with_cut : FileName → ℕ → Files → Files
 with_cut name length files = put name (option_map (take length) (file name files)) files
 
@@ -45,7 +45,8 @@ with_cut name length files = put name (option_map (take length) (file name files
 abbrev pub with_moved : FileName → FileName → Files → Files
 with_moved from to files = put to (file from files) (put from None files)
 
--- The files became this. A directory that tells its files goes on telling them, and one that doesn't goes on telling nothing.
+-- The files became this. A directory that tells its files goes on telling them, and one that
+-- doesn't goes on telling nothing.
 abbrev pub Become : (Files → Files) → Option Files → Option Files → Type 0
 Become change old new = new ≡ option_map change old
 
@@ -58,12 +59,12 @@ abbrev pub IsThere : FileName → Option Files → Type 0
 IsThere name None = ⊤
 IsThere name (Some files) = IsSome (file name files)
 
--- a file that is there and has at least so many bytes
+-- a file that is there and has at least this many bytes
 abbrev pub HasAtLeast : ℕ → Option (List ℕ) → Type 0
 HasAtLeast n None = ⊥
 HasAtLeast n (Some bytes) = n ≤ length bytes
 
--- the file is there and has at least so many bytes, where the directory tells
+-- the file is there and has at least this many bytes, where the directory tells
 abbrev pub IsAtLeast : ℕ → FileName → Option Files → Type 0
 IsAtLeast n name None = ⊤
 IsAtLeast n name (Some files) = HasAtLeast n (file name files)

@@ -5,7 +5,8 @@ use Rattle.disk_model.specs.Files.{Files, no_files}
 use Rattle.disk_model.specs.Past.{Call, Outcome, Past, with_call}
 use Rattle.disk_model.specs.Told.{Told}
 
--- what was done on it, how often it has failed, how often it was called, and the numbers of the calls that fail
+-- what was done on it, how often it has failed, how often it was called, and the numbers of the
+-- calls that fail
 pub record Memory : Type 0 where
   pub past : Past
   pub faults : ℕ
@@ -49,7 +50,10 @@ abbrev pub failure : Call → Outcome
 failure (Call.Append name bytes) = Outcome.FailedFront (length bytes / 2)
 failure call = Outcome.FailedUndone
 
--- How a call ends. A call that is listed fails so, each other one is done, and one that finds no memory is not recorded.
+-- How a call ends. A call that is listed fails so, each other one is done, and one that finds no
+-- memory is not recorded.
 abbrev pub Ends : {T E : Type 0} → Call → Memory → Result T E → Memory → Type 0
 Ends call old (Ok done) new = (¬ NextFails old) × (new ≡ recorded call Outcome.Done (counted old))
-Ends call old (Err fault) new = (NextFails old × (new ≡ faulted (recorded call (failure call) (counted old)))) ⊎ (new ≡ faulted (counted old))
+Ends call old (Err fault) new =
+    (NextFails old × (new ≡ faulted (recorded call (failure call) (counted old))))
+    ⊎ (new ≡ faulted (counted old))

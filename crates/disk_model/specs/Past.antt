@@ -14,8 +14,9 @@ pub data Call : Type 0 where
   Rename : (from to : FileName) → Call
   SyncNames : Call
 
--- How a call came out. It answered Ok and was done. Or it failed, and was done all the same, or not done,
--- or of an append the first bytes came, so many, or it found no memory to be recorded and was not done.
+-- How a call came out. It answered Ok and was done. Or it failed, and was done all the same, or not
+-- done, or of an append this many of the first bytes came, or it found no memory to be recorded and
+-- was not done.
 pub data Outcome : Type 0 where
   Done : Outcome
   FailedDone : Outcome
@@ -44,7 +45,7 @@ done (Call.Create name) disk = created name disk
 done (Call.Rename from to) disk = moved from to disk
 done Call.SyncNames disk = names_synced disk
 
--- the append of the first bytes alone, so many
+-- the append of this many of the first bytes alone
 abbrev pub front_of : ℕ → Call → Call
 front_of count (Call.Append name bytes) = Call.Append name (take count bytes)
 front_of count call = call
@@ -71,7 +72,8 @@ pub record Past : Type 0 where
   pub began : Files
   pub made : List Made
 
--- The moments are numbered: 0 is the one before the first call, and n the one after call n. The disk at a moment, or the last one:
+-- The moments are numbered: 0 is the one before the first call, and n the one after call n. The
+-- disk at a moment, or the last one:
 unfoldable pub disk_at : Past → ℕ → Disk
 disk_at past n = after (settled_disk past.began) (take n past.made)
 

@@ -35,7 +35,8 @@ pub record LeavesOnly (old new : Told) (P : Files → Type 0) : Type 0 where
   pub each : (image : Files) → LeftSince old new image → P image
 
 -- The same in two parts: up to a moment at which the disk has M each image has P, and from it on Q.
-pub record LeavesOnlyThen (old new : Told) (P : Files → Type 0) (M : Disk → Type 0) (Q : Files → Type 0) : Type 0 where
+pub record LeavesOnlyThen (old new : Told) (P : Files → Type 0) (M : Disk → Type 0)
+    (Q : Files → Type 0) : Type 0 where
   pub middle : Told
   pub before : LeavesOnly old middle P
   pub there : Now M middle

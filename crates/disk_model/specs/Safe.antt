@@ -24,14 +24,16 @@ pub record IsSafe (name : FileName) (bytes : List ℕ) (disk : Disk) : Type 0 wh
   pub settled : IsSettled name disk
   pub synced : IsSynced name bytes disk
 
--- A name is safe up to what was added: it is settled, these bytes of its file are synced, those came since, in pieces, and none was cut off.
+-- A name is safe up to what was added: it is settled, these bytes of its file are synced, those
+-- came since, in pieces, and none was cut off.
 pub record IsSafeUpTo (name : FileName) (bytes added : List ℕ) (disk : Disk) : Type 0 where
   pub settled : IsSettled name disk
   pub pieces : List (List ℕ)
   pub joined : concat pieces ≡ added
-  pub file : stored name (names_now disk) disk.files ≡ Some (record { synced = bytes; changes = map Change.Added pieces })
+  pub file : stored name (names_now disk) disk.files
+      ≡ Some (record { synced = bytes; changes = map Change.Added pieces })
 
--- In the image the name has these bytes and the first of the others, so many.
+-- In the image the name has these bytes and this many of the first of the others.
 abbrev pub HasFront : FileName → (bytes added : List ℕ) → Files → Type 0
 HasFront name bytes added image = (count : ℕ) × (file name image ≡ Some (bytes ++ take count added))
 

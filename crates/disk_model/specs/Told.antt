@@ -22,7 +22,8 @@ disk_told told = option_map disk_now told.past
 abbrev pub Now : (Disk → Type 0) → Told → Type 0
 Now P told = IfSome (disk_told told) P
 
--- A call was made and came out so. A directory that tells its past goes on telling it, and one that doesn't goes on telling nothing.
+-- A call was made and came out so. A directory that tells its past goes on telling it, and one that
+-- doesn't goes on telling nothing.
 abbrev pub Goes : Call → Outcome → Told → Told → Type 0
 Goes call outcome old new = new.past ≡ option_map (with_call call outcome) old.past
 

@@ -25,10 +25,10 @@ use record::Record;
 use std::alloc::Global;
 use std::marker::Model;
 
-/// A directory in memory, which tells its content and each call that was made on it. Of its calls of
-/// `Dir`, counted from 1, those whose numbers are listed fail. A failed `append` leaves the first half of
-/// its bytes, rounded down, and any other failed call changes nothing. A call that finds no memory to be
-/// recorded fails too, and changes nothing.
+/// A directory in memory, which tells its content and each call that was made on it. Of its calls
+/// of `Dir`, counted from 1, those whose numbers are listed fail. A failed `append` leaves the
+/// first half of its bytes, rounded down, and any other failed call changes nothing. A call that
+/// finds no memory to be recorded fails too, and changes nothing.
 #[derive(Debug, Drop)]
 pub struct MemoryDir {
     alloc: Global,
@@ -43,7 +43,13 @@ impl Model for MemoryDir {
 
     ghost Value = { Memory };
 
-    ghost view = { λ d. record { past = d.«record»; faults = d.faults; calls = d.calls; fails = d.fails.items } };
+    ghost view = { λ d. record {
+      past = d.«record»;
+      faults = d.faults;
+      calls = d.calls;
+      fails =
+          d.fails.items;
+    } };
 }
 
 impl MemoryDir {
@@ -61,10 +67,13 @@ impl MemoryDir {
         })
     }
 
-    /// The same directory with a file of these bytes. Its past begins anew: all that it holds is synced.
+    /// The same directory with a file of these bytes. Its past begins anew: all that it holds is
+    /// synced.
     pub fn with_file(self, name: FileName, bytes: &[u8]) -> Result<MemoryDir, NoMemory>
-        ensures file { IfOk result (λ dir. dir ≡ holding (with_file name bytes.now (files_now self.past)) self) }
-        ensures files { IfOk result (λ dir. files_now dir.past ≡ with_file name bytes.now (files_now self.past)) }
+        ensures file { IfOk result
+            (λ dir. dir ≡ holding (with_file name bytes.now (files_now self.past)) self) }
+        ensures files { IfOk result
+            (λ dir. files_now dir.past ≡ with_file name bytes.now (files_now self.past)) }
     {
         let MemoryDir {
             alloc,
@@ -91,10 +100,12 @@ impl MemoryDir {
         self.record.get(name).map(|bytes| bytes.as_slice())
     }
 
-    /// A directory that a crash may leave: at the moment that the choice names, with as much of what was not
-    /// synced then as it says. All of it is synced there, nothing has failed, and no call is to fail.
+    /// A directory that a crash may leave: at the moment that the choice names, with as much of
+    /// what was not synced then as it says. All of it is synced there, nothing has failed, and no
+    /// call is to fail.
     pub fn image(&self, choice: Choice) -> Result<MemoryDir, NoMemory>
-        ensures chosen { IfOk result (λ dir. dir ≡ holding (chosen choice self.now.past) (untouched [])) }
+        ensures chosen { IfOk result
+            (λ dir. dir ≡ holding (chosen choice self.now.past) (untouched [])) }
         ensures files { IfOk result (λ dir. files_now dir.past ≡ chosen choice self.now.past) }
         ensures allowed { IfOk result (λ dir.
             Leaves (disk_at self.now.past choice.since) (files_now dir.past)) }
@@ -122,8 +133,10 @@ impl MemoryDir {
     // Makes a call, which fails where it is listed.
     fn call(&mut self, asked: Asked) -> Result<(), DirFault>
         ensures ends { Ends (call_of asked) self.old result self.new }
-        ensures done { OnOk result (Goes (call_of asked) Outcome.Done (telling self.old) (telling self.new)) }
-        ensures failed { OnErr result (Fails (call_of asked) (telling self.old) (telling self.new)) }
+        ensures done { OnOk result
+            (Goes (call_of asked) Outcome.Done (telling self.old) (telling self.new)) }
+        ensures failed { OnErr result
+            (Fails (call_of asked) (telling self.old) (telling self.new)) }
         ensures small { (name : FileName) → HasFew (file name (files_now self.new.past)) }
         ensures cause { HasCause self.old.faults self.new.faults result }
     {
@@ -153,7 +166,8 @@ impl MemoryDir {
 
     // Lets a call fail. Where it finds no memory nothing of it is done.
     fn refuse(&mut self, asked: Asked) -> DirFault
-        ensures failed { (self.new ≡ faulted (recorded (call_of asked) (failure (call_of asked)) self.old))
+        ensures failed { (self.new
+            ≡ faulted (recorded (call_of asked) (failure (call_of asked)) self.old))
             ⊎ (self.new ≡ faulted self.old) }
         ensures small { (name : FileName) → HasFew (file name (files_now self.new.past)) }
         ensures later { self.old.faults ≤ self.new.faults }

@@ -23,8 +23,8 @@ use std::rt::Files;
 
 /// A folder of the file system, seen as the number of its faults. It tells no content.
 ///
-/// From its first call on it holds a lock on the folder, until it is dropped. Where another process holds
-/// that, each call is a fault, and touches nothing.
+/// From its first call on it holds a lock on the folder, until it is dropped. Where another process
+/// holds that, each call is a fault, and touches nothing.
 #[derive(Drop)]
 pub struct RealDir<R: Files> {
     rt: R,
@@ -39,8 +39,8 @@ impl<R: Files> Model for RealDir<R> {
 }
 
 impl<R: Files<File = File> + Drop> RealDir<R> {
-    /// The folder at this path, where the empty path is the folder that the program runs in. Nothing is
-    /// opened yet: a folder that is not there shows at the first call.
+    /// The folder at this path, where the empty path is the folder that the program runs in.
+    /// Nothing is opened yet: a folder that is not there shows at the first call.
     pub fn new(rt: R, alloc: Global, folder: &str) -> Result<RealDir<R>, NoMemory>
         ensures no_faults { IfOk result (λ dir. dir ≡ 0) }
     {

@@ -14,11 +14,12 @@ use Rattle.effect_log.specs.declared.reason.Reason.TheVariants as reason
 abbrev pub IsEntryOf : List (List ℕ) → ℕ → Entry → Type 0
 IsEntryOf words size (entry.Multi taken) = (taken ≡ size) × (is_named multi words ≡ true)
 IsEntryOf words size (entry.Exec taken) = (taken ≡ size) × (is_named exec words ≡ true)
-IsEntryOf words size (entry.Effect effect taken) = (taken ≡ size) × (effect.words ≡ words) × (is_named multi words ≡ false) × (is_named exec words ≡ false)
+IsEntryOf words size (entry.Effect effect taken) = (taken ≡ size) × (effect.words ≡ words)
+    × (is_named multi words ≡ false) × (is_named exec words ≡ false)
 IsEntryOf words size entry.Unfinished = ⊥
 IsEntryOf words size (entry.Bad place why) = ⊥
 
--- a request of this name stands at the front, and takes so many bytes
+-- a request of this name stands at the front, and takes this many bytes
 pub record IsNamedFront (name bytes : List ℕ) (size : ℕ) : Type 0 where
   pub words : List (List ℕ)
   pub request : IsRequest words
@@ -26,7 +27,7 @@ pub record IsNamedFront (name bytes : List ℕ) (size : ℕ) : Type 0 where
   pub whole : bytes ≡ multibulk words ++ drop size bytes
   pub size_is : size ≡ length (multibulk words)
 
--- an effect stands at the front, and takes so many bytes
+-- an effect stands at the front, and takes this many bytes
 pub record IsEffectFront (bytes : List ℕ) (effect : Effect) (size : ℕ) : Type 0 where
   pub loggable : IsLoggable effect
   pub whole : bytes ≡ effect_text effect ++ drop size bytes

@@ -10,7 +10,8 @@ use Rattle.effect_log.specs.Unit.{multi, exec, effect_text, is_named, IsLoggable
 use Rattle.effect_log.specs.declared.reason.Reason.{Reason}
 use Rattle.effect_log.specs.declared.reason.Reason.TheVariants as reason
 
--- a unit as it stands in a log: the request that opens it, its effects, and the request that closes it
+-- a unit as it stands in a log: the request that opens it, its effects, and the request that closes
+-- it
 pub record Unit : Type 0 where
   pub opening : List ℕ
   pub effects : List Effect
@@ -58,8 +59,8 @@ pub record IsOpened (bytes : List ℕ) : Type 0 where
   pub each : AllByRecursion IsLoggable effects
   pub whole : bytes ≡ opening ++ effects_text effects
 
--- A unit that was not written to its end: a part of a request, or MULTI and whole effects, and behind
--- them nothing or a part of a request.
+-- A unit that was not written to its end: a part of a request, or MULTI and whole effects, and
+-- behind them nothing or a part of a request.
 pub record IsTornInside (bytes : List ℕ) : Type 0 where
   pub front : List ℕ
   pub rest : List ℕ
@@ -117,8 +118,8 @@ pub record IsLoneExec (bytes : List ℕ) (at : ℕ) : Type 0 where
   pub closes : BeginsNamed exec bytes
   pub place_is : at ≡ 0
 
--- The first fault of form of what begins a unit here: its reason, and where it stands. The last three
--- reasons are no faults of form.
+-- The first fault of form of what begins a unit here: its reason, and where it stands. The last
+-- three reasons are no faults of form.
 abbrev pub FaultAt : List ℕ → Reason → ℕ → Type 0
 FaultAt bytes (reason.Request kind) at = IsBadRequest bytes kind at
 FaultAt bytes reason.NotMultibulk at = IsNoRequest bytes at

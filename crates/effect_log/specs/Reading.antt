@@ -4,7 +4,8 @@ use Rattle.core_types.specs.declared.effect.Effect.{Effect}
 use Rattle.effect_log.specs.Log.{Unit, unit_bytes, effect_start, IsUnit, IsTorn, FaultAt}
 use Rattle.effect_log.specs.declared.reason.Reason.{Reason}
 
--- a log that is read: all its bytes, the place of the next unit, and where the effects of the last unit begin
+-- a log that is read: all its bytes, the place of the next unit, and where the effects of the last
+-- unit begin
 pub record Log : Type 0 where
   pub bytes : List ℕ
   pub place : ℕ
@@ -23,7 +24,8 @@ pub record TakesUnit (old new : Log) (effects : List Effect) : Type 0 where
   pub taken : ahead old ≡ unit_bytes unit ++ ahead new
   pub place : new.place ≡ old.place + length (unit_bytes unit)
   pub count : length new.starts ≡ length effects
-  pub starts : (n : ℕ) → n < length effects → slice_get new.starts n ≡ Some (old.place + effect_start unit n)
+  pub starts : (n : ℕ) → n < length effects
+      → slice_get new.starts n ≡ Some (old.place + effect_start unit n)
 
 -- the log ends with a torn unit, at this offset
 abbrev pub IsTail : Log → ℕ → Type 0

@@ -1,4 +1,5 @@
--- Why an effect makes nothing of the keys, and the reason that its log is refused for. Replaying knows no faults of form.
+-- Why an effect makes nothing of the keys, and the reason that its log is refused for. Replaying
+-- knows no faults of form.
 use Rattle.effect_log.specs.declared.reason.Reason.{Reason}
 use Rattle.effect_log.specs.declared.reason.Reason.TheVariants as reason
 

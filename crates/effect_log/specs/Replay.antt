@@ -25,14 +25,15 @@ and_then (Err why) next = Err why
 -- effects in order, up to the first that makes nothing of the keys
 abbrev pub replayed : Meaning → Keys → List Effect → Result Keys Refusal
 replayed replay keys [] = Ok keys
-replayed replay keys (effect ∷ more) = and_then (replay keys effect) (λ then. replayed replay then more)
+replayed replay keys (effect ∷ more) =
+    and_then (replay keys effect) (λ then. replayed replay then more)
 
 -- the effects of units, in order
 abbrev pub effects_of : List Unit → List Effect
 effects_of units = flat_map (λ u. u.effects) units
 
--- A log's bytes stand for these keys: up to a place they are units whose effects make them, and then
--- there is nothing or a torn unit.
+-- A log's bytes stand for these keys: up to a place they are units whose effects make them, and
+-- then there is nothing or a torn unit.
 pub record Holds (replay : Meaning) (bytes : List ℕ) (keys : Keys) (kept : ℕ) : Type 0 where
   pub units : List Unit
   pub holds : HoldsUnits bytes units kept

@@ -20,7 +20,8 @@ effect_text effect = multibulk effect.words
 abbrev pub unit : List Effect → List ℕ
 unit [] = []
 unit (e ∷ []) = effect_text e
-unit (e ∷ f ∷ more) = multibulk (multi ∷ []) ++ flat_map effect_text (e ∷ f ∷ more) ++ multibulk (exec ∷ [])
+unit (e ∷ f ∷ more) =
+    multibulk (multi ∷ []) ++ flat_map effect_text (e ∷ f ∷ more) ++ multibulk (exec ∷ [])
 
 -- the words begin with this name, in any case of letters
 abbrev pub is_named : List ℕ → List (List ℕ) → Bool

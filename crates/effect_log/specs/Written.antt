@@ -22,7 +22,13 @@ log_text events = flat_map unit events
 abbrev pub written : List Effect → List Unit
 written [] = []
 written (e ∷ []) = record { opening = []; effects = e ∷ []; closing = [] } ∷ []
-written (e ∷ f ∷ more) = record { opening = multibulk (multi ∷ []); effects = e ∷ f ∷ more; closing = multibulk (exec ∷ []) } ∷ []
+written (e ∷ f ∷ more) =
+    record {
+      opening = multibulk (multi ∷ []);
+      effects = e ∷ f ∷ more;
+      closing =
+          multibulk (exec ∷ []);
+    } ∷ []
 
 -- the units of events in order: an event without effects has none
 abbrev pub units_written : List (List Effect) → List Unit

@@ -13,7 +13,8 @@ use std::alloc::Global;
 /// What stands at the front of bytes, where a unit is due.
 #[derive(Debug, Drop)]
 pub(crate) enum Front {
-    /// A whole unit: its effects, where each of them begins in the log, and how many bytes it takes.
+    /// A whole unit: its effects, where each of them begins in the log, and how many bytes it
+    /// takes.
     Unit(Effects, Vec<u64>, usize),
     /// A unit that was not written to its end.
     Torn,
@@ -42,7 +43,7 @@ pub(crate) fn read_unit(alloc: Global, bytes: &[u8], offset: u64) -> Result<Fron
     }
 }
 
-// Reads the unit that a MULTI of so many bytes opens, up to its EXEC.
+// Reads the unit that a MULTI of this size opens, up to its EXEC.
 fn read_enclosed(
     alloc: Global,
     bytes: &[u8],

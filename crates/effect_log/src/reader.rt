@@ -31,8 +31,8 @@ pub enum NextUnit {
     Bad(u64, Reason),
 }
 
-/// A reader of the units of a log, from a place on. It holds no copy of the log, and takes memory for one
-/// unit at a time.
+/// A reader of the units of a log, from a place on. It holds no copy of the log, and takes memory
+/// for one unit at a time.
 #[derive(Debug, Drop)]
 pub struct LogReader<'a> {
     alloc: Global,
@@ -69,13 +69,15 @@ impl<'a> LogReader<'a> {
         }
     }
 
-    /// Takes the next unit. What is no unit is told again and again, with its offset in all the bytes, and
-    /// an `Err` changes nothing.
+    /// Takes the next unit. What is no unit is told again and again, with its offset in all the
+    /// bytes, and an `Err` changes nothing.
     pub fn next(&mut self) -> Result<NextUnit, NoMemory>
         ensures unit { (effects : List Effect) → result ≡ Ok (NextUnit.Unit effects)
             → TakesUnit self.old self.new effects }
-        ensures end { result ≡ Ok NextUnit.End → (self.old.place ≡ length self.old.bytes) × (self.new ≡ self.old) }
-        ensures tail { (offset : ℕ) → result ≡ Ok (NextUnit.Tail offset) → IsTail self.old offset × (self.new ≡ self.old) }
+        ensures end { result ≡ Ok NextUnit.End → (self.old.place ≡ length self.old.bytes)
+            × (self.new ≡ self.old) }
+        ensures tail { (offset : ℕ) → result ≡ Ok (NextUnit.Tail offset) → IsTail self.old offset
+            × (self.new ≡ self.old) }
         ensures bad { (offset : ℕ) (why : Reason) → result ≡ Ok (NextUnit.Bad offset why)
             → IsFaulty self.old offset why × (self.new ≡ self.old) }
         ensures err { OnErr result (self.new ≡ self.old) }
@@ -104,12 +106,14 @@ impl<'a> LogReader<'a> {
     }
 }
 
-/// A log has one reading: its units, and where they end, or its first fault of form, and never both. Each
-/// list of bytes has one of the two.
+/// A log has one reading: its units, and where they end, or its first fault of form, and never
+/// both. Each list of bytes has one of the two.
 pub fn one_log()
-    ensures either { (bytes : List ℕ) → ((units : List Unit) × (kept : ℕ) × HoldsUnits bytes units kept)
+    ensures either { (bytes : List ℕ)
+        → ((units : List Unit) × (kept : ℕ) × HoldsUnits bytes units kept)
         ⊎ ((units : List Unit) × (why : Reason) × (at : ℕ) × BreaksAt bytes units why at) }
-    ensures units { (bytes : List ℕ) (units others : List Unit) (kept other : ℕ) → HoldsUnits bytes units kept
+    ensures units { (bytes : List ℕ) (units others : List Unit) (kept other : ℕ)
+        → HoldsUnits bytes units kept
         → HoldsUnits bytes others other → (units ≡ others) × (kept ≡ other) }
     ensures fault { (bytes : List ℕ) (units others : List Unit) (why other : Reason) (at place : ℕ)
         → BreaksAt bytes units why at → BreaksAt bytes others other place
@@ -118,17 +122,21 @@ pub fn one_log()
         → HoldsUnits bytes units kept → ¬ BreaksAt bytes others why at }
 {}
 
-/// What `unit_text` writes is read back: the units of any events are those units, and a last one of which a
-/// part is missing is a torn one, which begins where it begins. Whatever follows whole units, they stay units,
-/// and it is read as it is by itself.
+/// What `unit_text` writes is read back: the units of any events are those units, and a last one of
+/// which a part is missing is a torn one, which begins where it begins. Whatever follows whole
+/// units, they stay units, and it is read as it is by itself.
 pub fn units_read_back()
     ensures whole { (events : List (List Effect)) → AreLoggable events
         → HoldsUnits (log_text events) (units_written events) (length (log_text events)) }
-    ensures torn { (events : List (List Effect)) (last : List Effect) (count : ℕ) → AreLoggable events
+    ensures torn { (events : List (List Effect)) (last : List Effect) (count : ℕ)
+        → AreLoggable events
         → AllByRecursion IsLoggable last → 0 < count → count < length (unit last)
-        → HoldsUnits (log_text events ++ take count (unit last)) (units_written events) (length (log_text events)) }
-    ensures joined { (front more : List ℕ) (units others : List Unit) (kept : ℕ) → HoldsUnits front units (length front)
-        → HoldsUnits more others kept → HoldsUnits (front ++ more) (units ++ others) (length front + kept) }
+        → HoldsUnits (log_text events ++ take count (unit last)) (units_written events)
+        (length (log_text events)) }
+    ensures joined { (front more : List ℕ) (units others : List Unit) (kept : ℕ)
+        → HoldsUnits front units (length front)
+        → HoldsUnits more others kept
+        → HoldsUnits (front ++ more) (units ++ others) (length front + kept) }
     ensures joined_fault { (front more : List ℕ) (units others : List Unit) (why : Reason) (at : ℕ)
         → HoldsUnits front units (length front) → BreaksAt more others why at
         → BreaksAt (front ++ more) (units ++ others) why (length front + at) }

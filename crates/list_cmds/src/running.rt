@@ -36,7 +36,8 @@ pub fn run(
     }
 }
 
-/// Runs a command on a key that holds another kind of value: it is refused, first for its own words.
+/// Runs a command on a key that holds another kind of value: it is refused, first for its own
+/// words.
 pub fn run_other_kind(
     alloc: Global,
     cmd: ListCmd,

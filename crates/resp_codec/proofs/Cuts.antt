@@ -44,7 +44,7 @@ before_first-long stops (suc n) (byte ∷ text) long none =
     let parts = or_parts (stops byte) (list_any stops (take n text)) none in
     rw parts.0 (omega (arith, before_first-long stops n text (omega arith) parts.1))
 
--- where a search among so many bytes ends
+-- where a search among this many bytes ends
 pub record SearchEnd (stops : ℕ → Bool) (most : ℕ) (bytes : List ℕ) : Type 0 where
   pub end : ℕ
   pub within : end ≤ length bytes

@@ -115,7 +115,7 @@ word_next bytes count words place read more word.Open judged further = (array.Un
 word_next bytes count words place read more (word.Bad kind at) judged further = (array.Bad kind (place + at), HasRead-bad bytes count words place kind at read more judged)
 word_next bytes count words place read more (word.Whole word size) judged further = further word size (HasRead-push bytes count words word place size read more judged)
 
--- so many words are left to be read
+-- this many words are left to be read
 words_judged : (n : ℕ) (bytes : List ℕ) (count : ℕ) (words : List (List ℕ)) (place : ℕ) → HasRead bytes count words place → 0 < count → count ≡ length words + n → (answer : Array) × IsFront bytes answer
 words_judged zero bytes count words place read some left = (array.Request words place, HasRead-whole bytes count words place read some (omega arith))
 words_judged (suc n) bytes count words place read some left =

@@ -10,7 +10,7 @@ use Rattle.resp_codec.specs.Spelling.{IsWord, IsRequest}
 abbrev pub full : List ℕ → Bool
 full word = not (eqb (length word) 0)
 
--- no part is longer than so many bytes
+-- no part is longer than this many bytes
 abbrev Each : ℕ → List (List ℕ) → Type 0
 Each n parts = AllByRecursion (λ part. length part ≤ n) parts
 

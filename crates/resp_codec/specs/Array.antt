@@ -33,7 +33,8 @@ pub record IsBadArray (bytes : List ℕ) (kind : BadRequest) (at : ℕ) : Type 0
 
 -- what was found at the front of the bytes is so
 abbrev pub IsFront : List ℕ → Array → Type 0
-IsFront bytes (array.Request words size) = BeginsRequest bytes words × (size ≡ length (multibulk words))
+IsFront bytes (array.Request words size) = BeginsRequest bytes words
+    × (size ≡ length (multibulk words))
 IsFront bytes array.Empty = BeginsEmpty bytes
 IsFront bytes array.Other = (0 < length bytes) × (begins_array bytes ≡ false)
 IsFront bytes array.Unfinished = IsUnfinishedArray bytes

@@ -9,7 +9,8 @@ use Rattle.resp_codec.specs.Marks.{cr, lf, star, dollar, marked, header}
 use Rattle.resp_codec.specs.Inline.{IsLine, is_quote, begins_array}
 use Rattle.resp_codec.specs.Spelling.{bulk, IsWord}
 
--- A multibulk was begun: its header, and fewer words than that counts. The next word is due behind it.
+-- A multibulk was begun: its header, and fewer words than that counts. The next word is due behind
+-- it.
 pub record IsBegun (before : List ℕ) : Type 0 where
   pub count : ℕ
   pub words : List (List ℕ)
@@ -18,7 +19,8 @@ pub record IsBegun (before : List ℕ) : Type 0 where
   pub each : AllByRecursion IsWord words
   pub bytes : before ≡ header star count ++ flat_map bulk words
 
--- What is due behind some bytes, and begins here: a multibulk's header, a word, the header of either, or a line.
+-- What is due behind some bytes, and begins here: a multibulk's header, a word, the header of
+-- either, or a line.
 abbrev pub CountDue : List ℕ → List ℕ → Type 0
 CountDue before here = (before ≡ []) × (begins_array here ≡ true)
 
@@ -26,13 +28,15 @@ abbrev pub WordDue : List ℕ → List ℕ → Type 0
 WordDue before here = IsBegun before
 
 abbrev pub HeaderDue : List ℕ → List ℕ → Type 0
-HeaderDue before here = CountDue before here ⊎ (IsBegun before × ((rest : List ℕ) × (here ≡ dollar ∷ rest)))
+HeaderDue before here = CountDue before here
+    ⊎ (IsBegun before × ((rest : List ℕ) × (here ≡ dollar ∷ rest)))
 
 abbrev pub LineDue : List ℕ → List ℕ → Type 0
 LineDue before here = (before ≡ []) × (begins_array here ≡ false)
 
 -- Where it is due, something is wrong: at this offset, counted from there.
-pub record WrongAt (Due : List ℕ → List ℕ → Type 0) (Wrong : List ℕ → ℕ → Type 0) (bytes : List ℕ) (at : ℕ) : Type 0 where
+pub record WrongAt (Due : List ℕ → List ℕ → Type 0) (Wrong : List ℕ → ℕ → Type 0) (bytes : List ℕ)
+    (at : ℕ) : Type 0 where
   pub before : List ℕ
   pub here : List ℕ
   pub offset : ℕ
@@ -55,7 +59,8 @@ abbrev pub IsNoLength : List ℕ → Type 0
 IsNoLength text = (n : ℕ) → n ≤ 536870912 → text ≢ decimal n
 
 -- a header is whole, and what it has is no such number
-pub record BadNumber (mark : ℕ) (IsNone : List ℕ → Type 0) (here : List ℕ) (offset : ℕ) : Type 0 where
+pub record BadNumber (mark : ℕ) (IsNone : List ℕ → Type 0) (here : List ℕ)
+    (offset : ℕ) : Type 0 where
   pub text : List ℕ
   pub more : List ℕ
   pub line : here ≡ marked mark text ++ more
@@ -114,6 +119,8 @@ abbrev pub BadAt : List ℕ → BadRequest → ℕ → Type 0
 BadAt bytes MultibulkLength at = WrongAt CountDue (BadNumber star IsNoCount) bytes at
 BadAt bytes BulkLength at = WrongAt WordDue (BadNumber dollar IsNoLength) bytes at
 BadAt bytes (ExpectedDollar mark) at = WrongAt WordDue (OtherMark mark) bytes at
-BadAt bytes LineTooLong at = WrongAt HeaderDue (Endless cr) bytes at ⊎ WrongAt LineDue (Endless lf) bytes at
-BadAt bytes NoLineEnd at = WrongAt HeaderDue LoneReturn bytes at ⊎ WrongAt WordDue BadWordEnd bytes at
+BadAt bytes LineTooLong at = WrongAt HeaderDue (Endless cr) bytes at
+    ⊎ WrongAt LineDue (Endless lf) bytes at
+BadAt bytes NoLineEnd at = WrongAt HeaderDue LoneReturn bytes at
+    ⊎ WrongAt WordDue BadWordEnd bytes at
 BadAt bytes Quote at = WrongAt LineDue QuotedLine bytes at

@@ -8,7 +8,8 @@ use Rattle.resp_codec.specs.Spelling.{Spells, Skips}
 use Rattle.resp_codec.specs.Faults.{BadAt}
 use Rattle.resp_codec.specs.Stream.{Stream, IsUnfinished}
 
--- bytes that are read as one, and the words of the request that they spell, or none where they are skipped
+-- bytes that are read as one, and the words of the request that they spell, or none where they are
+-- skipped
 pub record Span : Type 0 where
   pub bytes : List ℕ
   pub words : Option (List (List ℕ))
@@ -24,8 +25,10 @@ bytes_of spans = flat_map (λ span. span.bytes) spans
 abbrev pub requests_of : List Span → List (List (List ℕ))
 requests_of spans = flat_map (λ span. option_to_list span.words) spans
 
--- These bytes were fed to a stream, and the front that it has passed holds these requests and no others.
-pub record IsReadAs (bytes : List ℕ) (requests : List (List (List ℕ))) (stream : Stream) : Type 0 where
+-- These bytes were fed to a stream, and the front that it has passed holds these requests and no
+-- others.
+pub record IsReadAs (bytes : List ℕ) (requests : List (List (List ℕ)))
+    (stream : Stream) : Type 0 where
   pub spans : List Span
   pub each : AllByRecursion IsSpan spans
   pub whole : bytes ≡ bytes_of spans ++ stream.rest
@@ -34,7 +37,7 @@ pub record IsReadAs (bytes : List ℕ) (requests : List (List (List ℕ))) (stre
 
 -- how a byte list ends behind its requests
 pub data End : Type 0 where
-  -- with so many bytes of a request whose end has not come, or none
+  -- with this many bytes of a request whose end has not come, or none
   Rest : (count : ℕ) → End
   -- at a bad place: its kind, and its offset in the whole list
   Bad : (kind : BadRequest) (offset : ℕ) → End
@@ -42,7 +45,8 @@ pub data End : Type 0 where
 -- The stream ends so.
 abbrev pub EndsAs : Stream → End → Type 0
 EndsAs stream (End.Rest count) = IsUnfinished stream.rest × (count ≡ length stream.rest)
-EndsAs stream (End.Bad kind offset) = (at : ℕ) × BadAt stream.rest kind at × (offset ≡ stream.passed + at)
+EndsAs stream (End.Bad kind offset) = (at : ℕ) × BadAt stream.rest kind at
+    × (offset ≡ stream.passed + at)
 
 -- The bytes hold these requests, those that are skipped left out, and then end so.
 pub record Requests (bytes : List ℕ) (requests : List (List (List ℕ))) (end : End) : Type 0 where
@@ -50,7 +54,7 @@ pub record Requests (bytes : List ℕ) (requests : List (List (List ℕ))) (end 
   pub read : IsReadAs bytes requests stream
   pub ends : EndsAs stream end
 
--- the same end, counted from so many bytes before
+-- the same end, counted from this many bytes before
 abbrev pub behind : ℕ → End → End
 behind count (End.Rest rest) = End.Rest rest
 behind count (End.Bad kind offset) = End.Bad kind (count + offset)

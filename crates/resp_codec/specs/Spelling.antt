@@ -43,7 +43,8 @@ pub record IsEmptyArray (bytes : List ℕ) : Type 0 where
   pub fits : FitsSigned w64 count
   pub whole : bytes ≡ marked star (signed_decimal count)
 
--- The bytes are skipped, all of them: a multibulk without words, or a line without words. They get no reply.
+-- The bytes are skipped, all of them: a multibulk without words, or a line without words. They get
+-- no reply.
 abbrev pub Skips : List ℕ → Type 0
 Skips bytes = IsEmptyArray bytes ⊎ IsInline bytes []
 

@@ -19,7 +19,7 @@ pub record Passes (old new : Stream) (bytes : List ℕ) : Type 0 where
   pub rest : old.rest ≡ bytes ++ new.rest
   pub passed : new.passed ≡ old.passed + length bytes
 
--- what was passed asks for nothing, and then spells a request of these words
+-- what was passed are empty requests, and then spells a request of these words
 pub record Takes (old new : Stream) (words : List (List ℕ)) : Type 0 where
   pub skipped : List (List ℕ)
   pub bytes : List ℕ
@@ -27,7 +27,7 @@ pub record Takes (old new : Stream) (words : List (List ℕ)) : Type 0 where
   pub spells : Spells bytes words
   pub passes : Passes old new (concat skipped ++ bytes)
 
--- What was passed asks for nothing.
+-- What was passed are empty requests.
 pub record SkipsOnly (old new : Stream) : Type 0 where
   pub skipped : List (List ℕ)
   pub skips : SkipsAll skipped
@@ -35,18 +35,20 @@ pub record SkipsOnly (old new : Stream) : Type 0 where
 
 -- no whole request, nothing that is skipped, and no bad place
 pub record IsUnfinished (bytes : List ℕ) : Type 0 where
-  pub no_request : (front more : List ℕ) (words : List (List ℕ)) → Spells front words → bytes ≢ front ++ more
+  pub no_request : (front more : List ℕ) (words : List (List ℕ)) → Spells front words
+      → bytes ≢ front ++ more
   pub no_skip : (front more : List ℕ) → Skips front → bytes ≢ front ++ more
   pub no_fault : (kind : BadRequest) (at : ℕ) → ¬ BadAt bytes kind at
 
--- what was passed asks for nothing, and more bytes are wanted
+-- what was passed are empty requests, and more bytes are wanted
 pub record Waits (old new : Stream) : Type 0 where
   pub skipped : List (List ℕ)
   pub skips : SkipsAll skipped
   pub passes : Passes old new (concat skipped)
   pub unfinished : IsUnfinished new.rest
 
--- what was passed asks for nothing, and then a bad place comes, at this offset in the whole stream
+-- what was passed are empty requests, and then a bad place comes, at this offset in the whole
+-- stream
 pub record Refuses (old new : Stream) (kind : BadRequest) (offset : ℕ) : Type 0 where
   pub skipped : List (List ℕ)
   pub at : ℕ

@@ -43,7 +43,7 @@ pub fn read_array(alloc: Global, bytes: &[u8]) -> Result<Array, NoMemory>
     }
 }
 
-// Reads the array whose header has so many bytes before its CR LF.
+// Reads the array whose header has this many bytes before its CR LF.
 fn read_counted(alloc: Global, bytes: &[u8], end: usize) -> Result<Array, NoMemory>
     requires mark { slice_get bytes.now 0 ≡ Some star }
     requires line { IsHeaderLine bytes.now end }
@@ -56,7 +56,7 @@ fn read_counted(alloc: Global, bytes: &[u8], end: usize) -> Result<Array, NoMemo
     }
 }
 
-// Reads the array whose header has so many bytes and gives this count.
+// Reads the array whose header has this many bytes and gives this count.
 fn read_words(alloc: Global, bytes: &[u8], start: usize, count: usize) -> Result<Array, NoMemory>
     requires some { 0 < count }
     requires few { count ≤ 1048576 }
@@ -80,9 +80,10 @@ fn read_words(alloc: Global, bytes: &[u8], start: usize, count: usize) -> Result
     Ok(Array::Request(words, place))
 }
 
-/// At the front of any bytes stands one thing, and one alone: a request, an array without words, no array,
-/// an array that more bytes may complete, or a bad place.
+/// At the front of any bytes stands one thing, and one alone: a request, an array without words, no
+/// array, an array that more bytes may complete, or a bad place.
 pub fn one_front()
     ensures some { (bytes : List ℕ) → 0 < length bytes → (array : Array) × IsFront bytes array }
-    ensures one { (bytes : List ℕ) (array other : Array) → IsFront bytes array → IsFront bytes other → array ≡ other }
+    ensures one { (bytes : List ℕ) (array other : Array) → IsFront bytes array → IsFront bytes other
+        → array ≡ other }
 {}

@@ -12,7 +12,7 @@ use core_types::BadRequest;
 pub(crate) enum Header {
     /// Its CR, or the byte after that, has not come yet.
     Open,
-    /// A line of so many bytes before its CR LF.
+    /// A line of this many bytes before its CR LF.
     Line(usize),
     /// No line, and the place of the byte that shows it.
     Bad(BadRequest, usize),

@@ -70,7 +70,7 @@ impl Input {
         self.bytes.as_slice().first().copied()
     }
 
-    /// The first bytes, so many.
+    /// This many of the first bytes.
     pub(crate) fn front(&self, count: usize) -> &[u8]
         requires { count ≤ length self.now }
         ensures front { result.now ≡ take count self.now }
@@ -78,7 +78,7 @@ impl Input {
         &self.bytes.as_slice()[..count]
     }
 
-    /// Drops the first bytes, so many.
+    /// Drops this many of the first bytes.
     pub(crate) fn skip(&mut self, count: usize)
         requires { count ≤ length self.old }
         ensures rest { self.new ≡ drop count self.old }

@@ -1,16 +1,17 @@
 //! RESP2: a stream of bytes to requests, and replies and requests to bytes.
 //!
-//! A `Reader` is seen as the number of bytes it has passed and the bytes fed beyond them. `next` gives the
-//! requests of the joined bytes, as arrays or on one line, and no others, in whatever pieces they came, or
-//! the kind and the place of the first byte that makes them no requests: the one whole reading of the bytes,
-//! by the laws of `laws.rt`. `write_reply` appends exactly the text of a reply, and `write_request` a spelling
-//! that is read back, whatever follows it. `read_array` says what stands at the front of bytes that are all
-//! there, where arrays alone may stand. Stands on `core_types`, `byte_text` for decimals, and `bytes`.
+//! A `Reader` is seen as the number of bytes it has passed and the bytes fed beyond them. `next`
+//! gives the requests of the joined bytes, as arrays or on one line, and no others, in whatever
+//! pieces they came, or the kind and the place of the first byte that makes them no requests: the
+//! one whole reading of the bytes, by the laws of `laws.rt`. `write_reply` appends exactly the text
+//! of a reply, and `write_request` a spelling that is read back, whatever follows it. `read_array`
+//! says what stands at the front of bytes that are all there, where arrays alone may stand. Stands
+//! on `core_types`, `byte_text` for decimals, and `bytes`.
 //!
-//! Reading is linear in the bytes fed, whatever the pieces: the reader keeps its place, the words it has
-//! finished, and of a word under way the bytes that came, each held once; a word's block is never larger
-//! than the word. Writing is linear: a decimal takes no memory of its own, and a large bulk lets the buffer
-//! grow by its size and not to the double.
+//! Reading is linear in the bytes fed, whatever the pieces: the reader keeps its place, the words
+//! it has finished, and of a word under way the bytes that came, each held once; a word's block is
+//! never larger than the word. Writing is linear: a decimal takes no memory of its own, and a large
+//! bulk lets the buffer grow by its size and not to the double.
 #![tactic(auto)]
 
 mod array;

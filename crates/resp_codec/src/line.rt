@@ -6,7 +6,7 @@ pub(crate) const CR: u8 = b'\r';
 
 pub(crate) const LF: u8 = b'\n';
 
-/// The byte that ends a line is looked for among the first bytes, so many.
+/// The byte that ends a line is looked for among this many of the first bytes.
 pub(crate) const FARTHEST: usize = 65_537;
 
 /// What stands where CR LF is due.

@@ -10,8 +10,8 @@ const MOST_WORDS: i64 = 1_048_576;
 
 const LONGEST_WORD: u64 = 536_870_912;
 
-/// How many words a multibulk has whose count is this text, where 0 stands for each number below 1 too, or
-/// `None` where a multibulk has no such count.
+/// How many words a multibulk has whose count is this text, where 0 stands for each number below 1
+/// too, or `None` where a multibulk has no such count.
 pub(crate) fn read_count(text: &[u8]) -> Option<u64>
     ensures some { IfSome result (IsCount text.now) }
     ensures none { IfNone result (IsNoCount text.now) }

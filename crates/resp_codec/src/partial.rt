@@ -36,7 +36,8 @@ impl Partial {
         self.bytes.len()
     }
 
-    /// Adds bytes of a word of this size. The block is doubled as the word comes, and never larger than it.
+    /// Adds bytes of a word of this size. The block is doubled as the word comes, and never larger
+    /// than it.
     pub(crate) fn add(&mut self, bytes: &[u8], size: usize) -> Result<(), NoMemory>
         requires { length self.old + length bytes.now ≤ size }
         ensures ok { OnOk result (self.new ≡ self.old ++ bytes.now) }

@@ -16,8 +16,8 @@ pub enum Got {
     Request(Args),
     /// No whole request yet; more bytes may complete one.
     More,
-    /// No request, whatever comes after: why, and the offset of the bad byte in the whole stream. Every
-    /// later `next` says the same.
+    /// No request, whatever comes after: why, and the offset of the bad byte in the whole stream.
+    /// Every later `next` says the same.
     Bad(BadRequest, u64),
 }
 
@@ -57,8 +57,8 @@ impl Reader {
         self.reading.feed(piece)
     }
 
-    /// Takes the next whole request. What asks for nothing, an array or a line without words, is passed
-    /// over, and on an `Err` no more than that.
+    /// Takes the next whole request. An empty request, an array or a line without words, is
+    /// passed over, and on an `Err` no more than that.
     pub fn next(&mut self) -> Result<Got, NoMemory>
         ensures request { (words : List (List ℕ)) → result ≡ Ok (Got.Request words)
             → Takes self.old self.new words }

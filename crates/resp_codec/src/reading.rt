@@ -26,14 +26,14 @@ pub(crate) enum Stage {
     Request,
     /// The header of a word.
     Length,
-    /// So many bytes of a word, and CR LF.
+    /// This many bytes of a word, and CR LF.
     Word(usize),
 }
 
 /// What a step came to.
 #[derive(Debug, Drop)]
 pub(crate) enum Step {
-    /// A part of a request was read, or a request that asks for nothing.
+    /// A part of a request was read, or an empty request, which is skipped.
     Onward,
     /// A request ended: its words.
     Took(Args),
@@ -43,7 +43,8 @@ pub(crate) enum Step {
     Bad(BadRequest, u64),
 }
 
-/// A stream up to the last byte that came: what was passed, what was read of the next request, and the rest.
+/// A stream up to the last byte that came: what was passed, what was read of the next request, and
+/// the rest.
 #[derive(Debug, Drop)]
 pub(crate) struct Reading {
     alloc: Global,
@@ -86,7 +87,8 @@ impl Reading {
 
     /// Adds the next piece of the stream.
     pub(crate) fn feed(&mut self, piece: &[u8]) -> Result<(), NoMemory>
-        requires { (seen self.old).passed + length (seen self.old).rest + length piece.now < 2 ^ 64 }
+        requires { (seen self.old).passed + length
+            (seen self.old).rest + length piece.now < 2 ^ 64 }
         ensures passed { (seen self.new).passed ≡ (seen self.old).passed }
         ensures ok { OnOk result ((seen self.new).rest ≡ (seen self.old).rest ++ piece.now) }
         ensures err { OnErr result (seen self.new ≡ seen self.old) }

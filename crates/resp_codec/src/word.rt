@@ -41,7 +41,7 @@ pub(crate) fn read_word(alloc: Global, bytes: &[u8]) -> Result<Word, NoMemory>
     take_word(alloc, bytes, end + 2, length as usize)
 }
 
-// What stands there, where a word of this size is due behind a header of so many bytes.
+// What stands there, where a word of this size is due behind a header of this many bytes.
 fn take_word(alloc: Global, bytes: &[u8], start: usize, size: usize) -> Result<Word, NoMemory>
     requires within { start ≤ length bytes.now }
     requires small { size ≤ 536870912 }

@@ -13,7 +13,8 @@ use core_types::{Args, Blob, NoMemory, Part, Replies, Reply};
 // A bulk of more bytes than this is large.
 const LARGE: usize = 65_536;
 
-// What stands around the bytes of a bulk: `$`, a decimal of at most twenty digits, and two line ends.
+// What stands around the bytes of a bulk: `$`, a decimal of at most twenty digits, and two line
+// ends.
 const BULK_FRAME: usize = 25;
 
 /// Appends the text of a reply, by RESP2. An `Err` leaves the buffer as it was.
@@ -63,7 +64,8 @@ fn append_reply(out: &mut Blob, reply: &Reply) -> Result<(), NoMemory>
 
 fn append_array(out: &mut Blob, replies: &Replies) -> Result<(), NoMemory>
     ensures ok { OnOk result
-        (out.new ≡ out.old ++ (header star replies.now.count ++ flat_map part_text replies.now.parts)) }
+        (out.new ≡ out.old ++
+        (header star replies.now.count ++ flat_map part_text replies.now.parts)) }
     ensures err { OnErr result (take (length out.old) out.new ≡ out.old) }
 {
     append_header(out, b'*', replies.count())?;
@@ -103,8 +105,8 @@ fn append_bulk(out: &mut Blob, bytes: &Blob) -> Result<(), NoMemory>
     ensures ok { OnOk result (out.new ≡ out.old ++ bulk bytes.now) }
     ensures err { OnErr result (take (length out.old) out.new ≡ out.old) }
 {
-    // The buffer grows by the size of a large bulk, and not to the double; a shorter one than what stands
-    // there leaves it to grow as ever, so that what stands there is moved seldom.
+    // The buffer grows by the size of a large bulk, and not to the double; a shorter one than what
+    // stands there leaves it to grow as ever, so that what stands there is moved seldom.
     if bytes.len() > LARGE.max(out.len()) {
         out.reserve(bytes.len().saturating_add(BULK_FRAME))?;
     }

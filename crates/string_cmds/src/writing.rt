@@ -9,7 +9,7 @@ use crate::words::{offset, string_note};
 use core_types::{After, Args, Blob, Effect, NoMemory, Outcome, Refusal, Reply};
 use std::alloc::Global;
 
-// A string has at most so many bytes.
+// The most bytes that a string may have.
 const LONGEST: usize = 536_870_912;
 
 /// `APPEND k v`, where the key holds a string.

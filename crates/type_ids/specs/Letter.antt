@@ -8,8 +8,8 @@ letters = codes "ABCDEFGHIJKLMNOPQRSTUVWXYZabcdefghijklmnopqrstuvwxyz0123456789-
 abbrev pub between : ℕ → ℕ → ℕ → Bool
 between low high byte = nat_le low byte && nat_le byte high
 
--- the number of a letter, and 64 for any other byte: `A` to `Z` are 65 to 90, `a` to `z` 97 to 122, `0` to `9`
--- 48 to 57, `-` is 45 and `_` is 95
+-- the number of a letter, and 64 for any other byte: `A` to `Z` are 65 to 90, `a` to `z` 97 to 122,
+-- `0` to `9` 48 to 57, `-` is 45 and `_` is 95
 abbrev pub letter_number : ℕ → ℕ
 letter_number byte =
     if between 65 90 byte then byte - 65 else

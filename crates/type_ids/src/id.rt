@@ -11,8 +11,8 @@ use crate::{NameFault, TypeName};
 // How many versions a name has, which is what the lowest ten bits hold.
 const VERSIONS: u64 = 1024;
 
-/// The id of a name and an encoding version of at most 1023: the numbers of the letters in six bits each, the
-/// first in the highest, then the version in ten bits.
+/// The id of a name and an encoding version of at most 1023: the numbers of the letters in six bits
+/// each, the first in the highest, then the version in ten bits.
 pub fn id_of(name: &TypeName, encver: u16) -> u64
     requires { encver ≤ 1023 }
     ensures number { result ≡ id_number name.now encver }
@@ -21,7 +21,8 @@ pub fn id_of(name: &TypeName, encver: u16) -> u64
     number_of_letters(name.text()) * VERSIONS + u64::from(encver)
 }
 
-/// The name and the encoding version that an id packs, or `Reserved` exactly where its upper 54 bits are 0.
+/// The name and the encoding version that an id packs, or `Reserved` exactly where its upper 54
+/// bits are 0.
 pub fn split(id: u64) -> Result<(TypeName, u16), NameFault>
     ensures ok { IfOk result (λ parts. IsIdOf parts.0 parts.1 id) }
     ensures err { IfErr result (λ fault. fault ≡ NameFault.Reserved) }

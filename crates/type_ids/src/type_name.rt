@@ -8,8 +8,8 @@ use crate::NameFault;
 use crate::letter::{LETTERS, number_of};
 use std::marker::Model;
 
-/// A name of nine letters that is not the reserved one. The letters are `A` to `Z`, `a` to `z`, `0` to `9`,
-/// `-` and `_`.
+/// A name of nine letters that is not the reserved one. The letters are `A` to `Z`, `a` to `z`, `0`
+/// to `9`, `-` and `_`.
 #[derive(Clone, Copy, Debug, PartialEq, Eq)]
 pub struct TypeName {
     text: [u8; 9],
@@ -30,8 +30,8 @@ impl Model for TypeName {
 }
 
 impl TypeName {
-    /// The name that these bytes are. `BadLength` where they are not nine, else `BadLetter` with the place of
-    /// the first that is no letter, else `Reserved` where they are `AAAAAAAAA`.
+    /// The name that these bytes are. `BadLength` where they are not nine, else `BadLetter` with
+    /// the place of the first that is no letter, else `Reserved` where they are `AAAAAAAAA`.
     pub fn new(text: &[u8]) -> Result<TypeName, NameFault>
         ensures ok { IfOk result (λ name. name ≡ text.now) }
         ensures named { IfOk result (λ _. IsTypeName text.now) }

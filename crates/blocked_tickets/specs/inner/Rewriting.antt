@@ -8,4 +8,5 @@ use Rattle.blocked_tickets.specs.declared.ticket.Ticket.{Ticket}
 -- the ticket of a number is changed, where it is there, and nothing else
 abbrev pub Rewrites : BTreeMap ℕ Ticket → BTreeMap ℕ Ticket → ℕ → (Ticket → Ticket) → Type 0
 Rewrites old new number change =
-    MatchOption (get nat_cmp old number) (new.entries ≡ old.entries) (λ ticket. Updates nat_cmp old new number (Some (change ticket)))
+    MatchOption (get nat_cmp old number) (new.entries ≡ old.entries)
+    (λ ticket. Updates nat_cmp old new number (Some (change ticket)))

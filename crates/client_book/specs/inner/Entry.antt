@@ -23,9 +23,10 @@ client_of entry = record {
   told = entry.outbox.told;
 }
 
--- after so many flushes
+-- after this number of flushes
 abbrev pub shown : ℕ → Entry → Listed
-shown flushes entry = record { client = client_of entry; may = entry.outbox.from + free_at flushes entry.outbox }
+shown flushes entry =
+    record { client = client_of entry; may = entry.outbox.from + free_at flushes entry.outbox }
 
 -- the mark of one that watches the key is set
 abbrev pub marked : List ℕ → Entry → Entry
@@ -35,15 +36,18 @@ marked key entry = record entry { touched = entry.touched || is_among key entry.
 pub record Fits (flushes : ℕ) (watchers : Watchers) (client : ℕ) (entry : Entry) : Type 0 where
   pub past : entry.outbox.flushes ≤ flushes
   pub early : entry.outbox.flushes < 2 ^ 64 - 1
-  pub indexed : (key : List ℕ) → is_among key entry.watched ≡ true → is_listed watchers key client ≡ true
+  pub indexed : (key : List ℕ) → is_among key entry.watched ≡ true
+      → is_listed watchers key client ≡ true
 
 abbrev pub AllFit : ℕ → Watchers → BTreeMap ℕ Entry → Type 0
-AllFit flushes watchers clients = (client : ℕ) → IfSome (get nat_cmp clients client) (Fits flushes watchers client)
+AllFit flushes watchers clients = (client : ℕ)
+    → IfSome (get nat_cmp clients client) (Fits flushes watchers client)
 
 -- one client's entry becomes f of it, or each does
 abbrev pub BecomesAt : ℕ → (Entry → Entry) → BTreeMap ℕ Entry → BTreeMap ℕ Entry → Type 0
 BecomesAt client f before now =
-    (q : ℕ) → get nat_cmp now q ≡ (if q == client then option_map f (get nat_cmp before q) else get nat_cmp before q)
+    (q : ℕ) → get nat_cmp now q
+    ≡ (if q == client then option_map f (get nat_cmp before q) else get nat_cmp before q)
 
 abbrev pub BecomesAll : (Entry → Entry) → BTreeMap ℕ Entry → BTreeMap ℕ Entry → Type 0
 BecomesAll f before now = (q : ℕ) → get nat_cmp now q ≡ option_map f (get nat_cmp before q)

@@ -1,7 +1,8 @@
 -- What an outbox is seen as.
 use Rattle.std.specs.Prelude.{ℕ, ◌+◌, ◌-◌, ◌^◌, ◌==◌, ◌≤◌, ◌<◌, List, [], ◌++◌, length, drop, if◌then◌else◌}
 
--- `told` begins at `from`. Its first `free` bytes may be taken; all of it, once more was flushed than `flushes`.
+-- `told` begins at `from`. Its first `free` bytes may be taken; all of it, once more was flushed
+-- than `flushes`.
 pub record Outgoing : Type 0 where
   pub from : ℕ
   pub told : List ℕ
@@ -11,18 +12,21 @@ pub record Outgoing : Type 0 where
 abbrev pub new_outgoing : Outgoing
 new_outgoing = record { from = 0; told = []; free = 0; flushes = 0 }
 
--- how many bytes may be taken after so many flushes
+-- how many bytes may be taken after this number of flushes
 abbrev pub free_at : ℕ → Outgoing → ℕ
 free_at flushes box = if box.flushes == flushes then box.free else length box.told
 
 abbrev pub holds : List ℕ → ℕ → Outgoing → Outgoing
-holds text flushes box = record box { told = box.told ++ text; free = free_at flushes box; flushes = flushes }
+holds text flushes box =
+    record box { told = box.told ++ text; free = free_at flushes box; flushes = flushes }
 
 -- the first n bytes are let go
 abbrev pub lets_go : ℕ → ℕ → Outgoing → Outgoing
-lets_go n flushes box = record box { from = box.from + n; told = drop n box.told; free = free_at flushes box - n }
+lets_go n flushes box =
+    record box { from = box.from + n; told = drop n box.told; free = free_at flushes box - n }
 
--- of the bytes that are kept the first `start` were taken, and of the others no more than all may be
+-- of the bytes that are kept the first `start` were taken, and of the others no more than all may
+-- be
 pub record IsWhole (bytes : List ℕ) (start from free : ℕ) : Type 0 where
   pub taken : start ≤ length bytes
   pub within : start + free ≤ length bytes

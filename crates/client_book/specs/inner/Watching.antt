@@ -20,14 +20,17 @@ is_listed watchers key client = is_in (watchers_of watchers key) client
 
 -- who is listed stays so
 abbrev pub Keeps : Watchers → Watchers → Type 0
-Keeps before now = (key : List ℕ) (client : ℕ) → is_listed before key client ≡ true → is_listed now key client ≡ true
+Keeps before now = (key : List ℕ) (client : ℕ) → is_listed before key client ≡ true
+    → is_listed now key client ≡ true
 
 -- but for one client at one key
 abbrev pub KeepsOthers : List ℕ → ℕ → Watchers → Watchers → Type 0
 KeepsOthers gone leaver before now =
-    (key : List ℕ) (client : ℕ) → is_listed before key client ≡ true → (is_listed now key client ≡ true) ⊎ ((key ≡ gone) × (client ≡ leaver))
+    (key : List ℕ) (client : ℕ) → is_listed before key client ≡ true
+    → (is_listed now key client ≡ true) ⊎ ((key ≡ gone) × (client ≡ leaver))
 
 -- but for one client
 abbrev pub KeepsAllBut : ℕ → Watchers → Watchers → Type 0
 KeepsAllBut leaver before now =
-    (key : List ℕ) (client : ℕ) → client ≢ leaver → is_listed before key client ≡ true → is_listed now key client ≡ true
+    (key : List ℕ) (client : ℕ) → client ≢ leaver → is_listed before key client ≡ true
+    → is_listed now key client ≡ true

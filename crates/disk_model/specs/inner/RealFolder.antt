@@ -1,5 +1,5 @@
--- What is known of a folder of the file system: whether it is locked, and of its names and of each of its
--- four files what is owed.
+-- What is known of a folder of the file system: whether it is locked, and of its names and of each
+-- of its four files what is owed.
 use Rattle.std.specs.Prelude.{◌≡◌, ◌⊎◌, ℕ, List, Bool, true, false}
 use Rattle.std.specs.Path.{path_join}
 use Rattle.disk_model.specs.FileName.{text}
@@ -38,7 +38,14 @@ unopened_in folder name = unopened (path_join folder (text name))
 
 -- the files of a folder, of which none was opened yet
 abbrev pub all_unopened : List ℕ → RealFiles
-all_unopened folder = record { log = unopened_in folder Log; log_temp = unopened_in folder LogTemp; dump = unopened_in folder Dump; dump_temp = unopened_in folder DumpTemp }
+all_unopened folder =
+    record {
+      log = unopened_in folder Log;
+      log_temp = unopened_in folder LogTemp;
+      dump =
+          unopened_in folder Dump;
+      dump_temp = unopened_in folder DumpTemp;
+    }
 
 -- the file without a handle, with bytes of which this is known
 abbrev pub closed : Synced → RealFile → RealFile
@@ -66,14 +73,15 @@ put LogTemp file files = record files { log_temp = file }
 put Dump file files = record files { dump = file }
 put DumpTemp file files = record files { dump_temp = file }
 
--- After a file moved to another name. That has its bytes, and the old name nothing that counts as synced.
--- The handles are closed: each is of a file that has its name no more.
+-- After a file moved to another name. That has its bytes, and the old name nothing that counts as
+-- synced. The handles are closed: each is of a file that has its name no more.
 abbrev pub moved : FileName → FileName → RealFiles → RealFiles
 moved from to files =
     let left = put from (closed No (named from files)) files in
     put to (closed (named from files).bytes (named to left)) left
 
--- After a move that failed, which has happened or not. A failed sync of one of the two is not made good.
+-- After a move that failed, which has happened or not. A failed sync of one of the two is not made
+-- good.
 abbrev pub maybe_moved : FileName → FileName → RealFiles → RealFiles
 maybe_moved from to files =
     let left = put from (closed (after_change (named from files).bytes) (named from files)) files in
@@ -93,11 +101,13 @@ file name folder = named name folder.files
 
 -- the locked folder after this change of what is known of one file
 abbrev pub after : FileName → (RealFile → RealFile) → RealFolder → RealFolder
-after name change folder = record folder { is_locked = true; files = put name (change (file name folder)) folder.files }
+after name change folder =
+    record folder { is_locked = true; files = put name (change (file name folder)) folder.files }
 
 -- the locked folder with these files, after a change of its names
 abbrev pub after_names : RealFiles → RealFolder → RealFolder
-after_names files folder = record folder { is_locked = true; names = after_change folder.names; files = files }
+after_names files folder =
+    record folder { is_locked = true; names = after_change folder.names; files = files }
 
 -- the locked folder, with names of which this is known
 abbrev pub with_names : Synced → RealFolder → RealFolder

@@ -27,7 +27,13 @@ impl Model for Contents {
 
     ghost Value = { Files };
 
-    ghost view = { λ c. record { log = c.log; log_temp = c.log_temp; dump = c.dump; dump_temp = c.dump_temp } };
+    ghost view = { λ c. record {
+      log = c.log;
+      log_temp = c.log_temp;
+      dump = c.dump;
+      dump_temp =
+          c.dump_temp;
+    } };
 }
 
 impl Contents {
@@ -127,7 +133,7 @@ impl Contents {
         Ok(())
     }
 
-    // Does a call, and of an append the first bytes alone, so many.
+    // Does a call, and of an append this many of the first bytes alone.
     fn make_front(&mut self, alloc: Global, asked: &Asked, count: usize) -> Result<(), NoMemory>
         ensures ok { OnOk result (self.new ≡ effect (front_of count (call_of asked.now)) self.old) }
         ensures err { OnErr result (self.new ≡ self.old) }
@@ -151,7 +157,7 @@ impl Contents {
         }
     }
 
-    // Keeps the first bytes of a file, so many, where it is there.
+    // Keeps this many of a file's first bytes, where it is there.
     fn cut(&mut self, name: FileName, length: u64)
         ensures front { self.new ≡ with_cut name length self.old }
     {

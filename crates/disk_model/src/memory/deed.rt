@@ -40,7 +40,7 @@ pub(crate) enum Came {
     Done,
     /// It failed, and changed nothing.
     Undone,
-    /// It was an append and failed, and the first bytes came, so many.
+    /// It was an append and failed, and this many of the first bytes came.
     Front(usize),
 }
 
@@ -56,7 +56,7 @@ impl Asked {
     }
 }
 
-/// The first bytes, so many, or all of them.
+/// This many of the first bytes, or all of them.
 pub(crate) fn front(bytes: &Blob, count: usize) -> &[u8]
     ensures front { result.now ≡ take count bytes.now }
 {

@@ -32,7 +32,12 @@ impl Model for Disk {
 
     ghost Value = { Disk };
 
-    ghost view = { λ d. record { names = d.names; renames = d.renames.items; files = d.files.items } };
+    ghost view = { λ d. record {
+      names = d.names;
+      renames = d.renames.items;
+      files =
+          d.files.items;
+    } };
 }
 
 impl Disk {
@@ -52,7 +57,7 @@ impl Disk {
         })
     }
 
-    // The names after the first changes, so many.
+    // The names after this many of the first changes.
     fn names_after(&self, kept: usize) -> Names
         ensures names { result ≡ after_renames self.now.names (take kept self.now.renames) }
     {
@@ -99,9 +104,10 @@ impl Disk {
         Ok(())
     }
 
-    // Does a call, and of an append the first bytes alone, so many.
+    // Does a call, and of an append this many of the first bytes alone.
     fn make_front(&mut self, alloc: Global, asked: &Asked, count: usize) -> Result<(), NoMemory>
-        ensures changed { OnOk result (self.new ≡ done (front_of count (call_of asked.now)) self.old) }
+        ensures changed { OnOk result
+            (self.new ≡ done (front_of count (call_of asked.now)) self.old) }
     {
         match asked {
             Asked::Append(name, bytes) => self.append(alloc, *name, front(bytes, count)),
@@ -175,14 +181,15 @@ impl Disk {
         ))
     }
 
-    // The file of this number, with its first unsynced steps, so many.
+    // The file of this number, with this many of its first unsynced steps.
     fn left(
         &self,
         alloc: Global,
         number: Option<usize>,
         steps: usize,
     ) -> Result<Option<Blob>, NoMemory>
-        ensures bytes { IfOk result (λ left. left ≡ option_map (λ file. after_steps steps file.synced file.changes)
+        ensures bytes { IfOk result
+            (λ left. left ≡ option_map (λ file. after_steps steps file.synced file.changes)
             (option_and_then (λ n. slice_get self.now.files n) number)) }
     {
         let Some(number) = number else {
@@ -212,7 +219,8 @@ fn change_file(
     number: Option<usize>,
     change: Change,
 ) -> Result<(), NoMemory>
-    ensures changed { OnOk result (files.new.items ≡ with_changed (with_change change) number files.old.items) }
+    ensures changed { OnOk result
+        (files.new.items ≡ with_changed (with_change change) number files.old.items) }
 {
     let Some(number) = number else {
         return Ok(());

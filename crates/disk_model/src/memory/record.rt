@@ -33,7 +33,8 @@ impl Model for Record {
 
     ghost view = { λ r. record { began = r.began; made = map made_of r.deeds.items } };
 
-    ghost invariant = { λ r. r.files ≡ files_now (record { began = r.began; made = map made_of r.deeds.items }) };
+    ghost invariant = { λ r. r.files
+        ≡ files_now (record { began = r.began; made = map made_of r.deeds.items }) };
 }
 
 impl Record {

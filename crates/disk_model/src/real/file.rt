@@ -30,7 +30,12 @@ impl Model for RealFile {
 
     ghost Value = { RealFile };
 
-    ghost view = { λ f. record { path = path_buf_bytes f.path; is_open = is_some f.handle; bytes = f.bytes } };
+    ghost view = { λ f. record {
+      path = path_buf_bytes f.path;
+      is_open = is_some f.handle;
+      bytes =
+          f.bytes;
+    } };
 }
 
 impl RealFile {
@@ -73,9 +78,10 @@ impl RealFile {
         Ok(Some(Blob::from_vec(bytes)))
     }
 
-    /// Makes the file new and empty, and syncs that: it may have been there, and no sync of the folder speaks
-    /// of its bytes. Nothing is left of it then that a failed sync may have lost. The handle that makes it is
-    /// closed: it would go on writing at its own place where the file is cut.
+    /// Makes the file new and empty, and syncs that: it may have been there, and no sync of the
+    /// folder speaks of its bytes. Nothing is left of it then that a failed sync may have lost. The
+    /// handle that makes it is closed: it would go on writing at its own place where the file is
+    /// cut.
     pub(crate) fn create(&mut self, rt: &impl Files<File = File>) -> io::Result<()>
         ensures ok { OnOk result (self.new ≡ closed Synced.Yes self.old) }
         ensures err { OnErr result ((self.new ≡ closed (after_change self.old.bytes) self.old)
@@ -100,7 +106,7 @@ impl RealFile {
         done
     }
 
-    /// Keeps the first bytes, so many. On an `Err` this has happened or not.
+    /// Keeps this many of the first bytes. On an `Err` this has happened or not.
     pub(crate) fn cut(&mut self, rt: &impl Files<File = File>, length: u64) -> io::Result<()>
         ensures unsynced { self.new ≡ changed self.new.is_open self.old }
         ensures open { OnOk result (self.new.is_open ≡ true) }
@@ -112,8 +118,8 @@ impl RealFile {
         done
     }
 
-    /// Makes the bytes safe from a crash, with no system call where they are known to be. An `Err` that
-    /// leaves what is known as it was comes from opening the file.
+    /// Makes the bytes safe from a crash, with no system call where they are known to be. An `Err`
+    /// that leaves what is known as it was comes from opening the file.
     pub(crate) fn sync(&mut self, rt: &impl Files<File = File>) -> io::Result<()>
         ensures ok { OnOk result (self.new ≡ synced self.new.is_open Synced.Yes self.old) }
         ensures nothing_owed { self.old.bytes ≡ Synced.Yes → IsOk result }

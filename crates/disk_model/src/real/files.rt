@@ -31,7 +31,13 @@ impl Model for RealFiles {
 
     ghost Value = { RealFiles };
 
-    ghost view = { λ f. record { log = f.log; log_temp = f.log_temp; dump = f.dump; dump_temp = f.dump_temp } };
+    ghost view = { λ f. record {
+      log = f.log;
+      log_temp = f.log_temp;
+      dump = f.dump;
+      dump_temp =
+          f.dump_temp;
+    } };
 }
 
 impl RealFiles {
@@ -72,7 +78,8 @@ impl RealFiles {
         }
     }
 
-    /// Moves a file to another name, in the place of what that had. On an `Err` this has happened or not.
+    /// Moves a file to another name, in the place of what that had. On an `Err` this has happened
+    /// or not.
     pub(crate) fn rename(
         &mut self,
         rt: &impl Files<File = File>,

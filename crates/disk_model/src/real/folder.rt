@@ -1,9 +1,10 @@
 //! The folder: its lock, and what is owed of its names and of its files.
 //!
-//! Each call first locks the folder, where that was not done yet, and touches nothing where it fails. The
-//! clauses say what is known after each outcome: which handles are left, and what is owed. No clause speaks of
-//! what the system does. So tests alone show that each call asks it for what the call's name says, of the path
-//! of the file that was named, and that `RealDir` passes the names on.
+//! Each call first locks the folder, where that was not done yet, and touches nothing where it
+//! fails. The clauses say what is known after each outcome: which handles are left, and what is
+//! owed. No clause speaks of what the system does. So tests alone show that each call asks it for
+//! what the call's name says, of the path of the file that was named, and that `RealDir` passes the
+//! names on.
 
 ghost use Rattle.std.specs.Prelude.{◌≡◌, ◌≢◌, ◌⊎◌, true, IfOk, IsOk, IsErr, OnOk, OnErr};
 ghost use Rattle.std.specs.Path.{path_buf_bytes};
@@ -83,13 +84,14 @@ impl RealFolder {
     ) -> io::Result<()>
         ensures ok { OnOk result (self.new ≡ after name (changed true) self.old) }
         ensures err { OnErr result
-            (FailsAt (after name (changed (file name self.new).is_open) self.old) self.old self.new) }
+            (FailsAt (after name (changed
+            (file name self.new).is_open) self.old) self.old self.new) }
     {
         self.lock(rt)?;
         self.files.get_mut(name).append(rt, bytes)
     }
 
-    /// Keeps the first bytes of a file, so many. On an `Err` this has happened or not.
+    /// Keeps this many of a file's first bytes. On an `Err` this has happened or not.
     pub(crate) fn cut(
         &mut self,
         rt: &impl Files<File = File>,
@@ -98,7 +100,8 @@ impl RealFolder {
     ) -> io::Result<()>
         ensures ok { OnOk result (self.new ≡ after name (changed true) self.old) }
         ensures err { OnErr result
-            (FailsAt (after name (changed (file name self.new).is_open) self.old) self.old self.new) }
+            (FailsAt (after name (changed
+            (file name self.new).is_open) self.old) self.old self.new) }
     {
         self.lock(rt)?;
         self.files.get_mut(name).cut(rt, length)
@@ -125,7 +128,8 @@ impl RealFolder {
     pub(crate) fn create(&mut self, rt: &impl Files<File = File>, name: FileName) -> io::Result<()>
         ensures ok { OnOk result (let made = closed Synced.Yes (file name self.old) in
             self.new ≡ after_names (put name made self.old.files) self.old) }
-        ensures err { OnErr result (let left = closed (file name self.new).bytes (file name self.old) in
+        ensures err { OnErr result
+            (let left = closed (file name self.new).bytes (file name self.old) in
             FailsAt (after_names (put name left self.old.files) self.old) self.old self.new) }
         ensures owed { OnErr result
             (Untouched self.old self.new ⊎ ((file name self.new).bytes ≢ Synced.Yes)) }
@@ -135,7 +139,8 @@ impl RealFolder {
         self.files.get_mut(name).create(rt)
     }
 
-    /// Moves a file to another name, in the place of what that had. On an `Err` this has happened or not.
+    /// Moves a file to another name, in the place of what that had. On an `Err` this has happened
+    /// or not.
     pub(crate) fn rename(
         &mut self,
         rt: &impl Files<File = File>,
@@ -144,21 +149,25 @@ impl RealFolder {
     ) -> io::Result<()>
         ensures ok { OnOk result (self.new ≡ after_names (moved from to self.old.files) self.old) }
         ensures err { OnErr result
-            (FailsAt (after_names (maybe_moved from to self.old.files) self.old) self.old self.new) }
+            (FailsAt (after_names
+            (maybe_moved from to self.old.files) self.old) self.old self.new) }
     {
         self.lock(rt)?;
         self.change_names();
         self.files.rename(rt, from, to)
     }
 
-    /// Makes the names safe from a crash, with no system call where they are known to be. Where a file is a
-    /// symbolic link this takes memory, for the path of what it names, and fails where there is none.
+    /// Makes the names safe from a crash, with no system call where they are known to be. Where a
+    /// file is a symbolic link this takes memory, for the path of what it names, and fails where
+    /// there is none.
     pub(crate) fn sync_names(&mut self, rt: &impl Files<File = File>) -> io::Result<()>
         ensures ok { OnOk result (self.new ≡ with_names Synced.Yes self.old) }
-        ensures err { OnErr result (FailsAt (with_names self.new.names self.old) self.old self.new) }
+        ensures err { OnErr result
+            (FailsAt (with_names self.new.names self.old) self.old self.new) }
         ensures failed { self.old.names ≡ Synced.Failed
             → IsErr result × (self.new.names ≡ Synced.Failed) }
-        ensures nothing_owed { self.old.names ≡ Synced.Yes → IsOk result ⊎ Untouched self.old self.new }
+        ensures nothing_owed { self.old.names ≡ Synced.Yes → IsOk result
+            ⊎ Untouched self.old self.new }
         ensures owed { OnErr result (Untouched self.old self.new ⊎ (self.new.names ≢ Synced.Yes)) }
     {
         self.lock(rt)?;
@@ -202,7 +211,8 @@ impl RealFolder {
     // Syncs the folder, and that of each file which a symbolic link in it names.
     fn sync_owed_names(&mut self, rt: &impl Files<File = File>) -> io::Result<()>
         ensures ok { OnOk result (self.new ≡ record self.old { names = Synced.Yes }) }
-        ensures err { OnErr result ((self.new ≡ self.old) ⊎ (self.new ≡ record self.old { names = Synced.Failed })) }
+        ensures err { OnErr result
+            ((self.new ≡ self.old) ⊎ (self.new ≡ record self.old { names = Synced.Failed })) }
     {
         self.sync_home(rt, FileName::Log)?;
         self.sync_home(rt, FileName::LogTemp)?;
@@ -217,7 +227,8 @@ impl RealFolder {
     // Where a file is a symbolic link, syncs the folder of what it names.
     fn sync_home(&mut self, rt: &impl Files<File = File>, name: FileName) -> io::Result<()>
         ensures ok { OnOk result (self.new ≡ self.old) }
-        ensures err { OnErr result ((self.new ≡ self.old) ⊎ (self.new ≡ record self.old { names = Synced.Failed })) }
+        ensures err { OnErr result
+            ((self.new ≡ self.old) ⊎ (self.new ≡ record self.old { names = Synced.Failed })) }
     {
         match open_home(rt, self.alloc, self.files.get(name).path())? {
             Some(home) => self.sync_folder(&home),

@@ -9,8 +9,8 @@ use std::io::{self, ErrorKind};
 use std::path::PathBuf;
 use std::rt::Files;
 
-/// Opens the folder that holds the file which a symbolic link at this path names. `None` where no link stands
-/// there, or the file that it names is missing.
+/// Opens the folder that holds the file which a symbolic link at this path names. `None` where no
+/// link stands there, or the file that it names is missing.
 pub(crate) fn open_home(
     rt: &impl Files<File = File>,
     alloc: Global,

@@ -12,8 +12,8 @@ pub(crate) enum Synced {
     Yes,
     /// It may not be.
     No,
-    /// A sync has failed. The system may have given up what it could not write, and yet answer the next
-    /// sync with success.
+    /// A sync has failed. The system may have given up what it could not write, and yet answer the
+    /// next sync with success.
     Failed,
 }
 

@@ -88,8 +88,8 @@ fn files_are_moved(rt: &HostRuntime) -> bool {
     holds(rt, "files/appendonly.aof", "log temp on") && holds(rt, "files/dump.rdb", "dump temp")
 }
 
-// Each file has its name in the folder, and moves to another in the place of what that had. A file that is
-// made anew is empty.
+// Each file has its name in the folder, and moves to another in the place of what that had. A file
+// that is made anew is empty.
 #[test]
 fn files(rt: HostRuntime) -> Result<(), Fail> {
     let alloc = rt.alloc();
@@ -126,7 +126,8 @@ fn folder_is_held(rt: HostRuntime) -> Result<(), Fail> {
     Ok(())
 }
 
-// A link to a folder, where the log is a device that takes no byte, and the dump a link to a missing file.
+// A link to a folder, where the log is a device that takes no byte, and the dump a link to a
+// missing file.
 fn make_links(rt: &HostRuntime) -> io::Result<()> {
     empty_folder(rt, "links")?;
     fs::create_dir(rt, "links/data")?;

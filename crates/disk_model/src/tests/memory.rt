@@ -5,7 +5,7 @@ use core_types::NoMemory;
 use std::alloc::Global;
 use std::test::Fail;
 
-// What a crash at a moment leaves under a name, where it keeps so many changes of names.
+// What a crash at a moment leaves under a name, where it keeps this many changes of names.
 #[derive(Clone, Copy)]
 struct Row {
     since: u64,
@@ -112,7 +112,8 @@ fn bytes_are_left_in_order(rt: HostRuntime) -> Result<(), Fail> {
     Ok(())
 }
 
-// A new log is made beside an old one of "old", filled and put in its place, up to the first call that fails.
+// A new log is made beside an old one of "old", filled and put in its place, up to the first call
+// that fails.
 fn replace(alloc: Global, fails: &[u64], name: FileName, rows: &[Row]) -> Result<bool, NoMemory> {
     let mut dir = MemoryDir::new(alloc, fails)?.with_file(FileName::Log, b"old")?;
     let _ = put_in_place(&mut dir);
@@ -215,7 +216,8 @@ fn names_are_left_in_order(rt: HostRuntime) -> Result<(), Fail> {
     Ok(())
 }
 
-// The dump of a directory that got one in two pieces, and whether it has a log: as it reads, and at a crash.
+// The dump of a directory that got one in two pieces, and whether it has a log: as it reads, and at
+// a crash.
 fn dump_reads(alloc: Global, want: &[u8]) -> Result<bool, NoMemory> {
     let mut dir = MemoryDir::new(alloc, &[])?.with_file(FileName::Dump, b"REDIS")?;
     let done = dir.append(FileName::Dump, b"0009").is_ok();

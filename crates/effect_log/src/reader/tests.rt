@@ -68,8 +68,8 @@ const LOG: &[u8] = b"*2\r\n$3\r\nDEL\r\n$1\r\na\r\n\
     *1\r\n$4\r\nexec\r\n\
     *2\r\n$3\r\nDEL\r\n$1\r\nb\r\n";
 
-// Each call answers something else than want of memory, and what it should, from the log's start and from
-// a unit in it.
+// Each call answers something else than want of memory, and what it should, from the log's start
+// and from a unit in it.
 #[test]
 fn ample(rt: HostRuntime) -> Result<(), Fail> {
     let alloc = rt.alloc();

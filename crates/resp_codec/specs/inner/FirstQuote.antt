@@ -6,4 +6,5 @@ use Rattle.resp_codec.specs.Inline.{is_quote}
 -- the place of the first quote
 abbrev pub IsFirstQuote : List ℕ → Option ℕ → Type 0
 IsFirstQuote line None = list_any is_quote line ≡ false
-IsFirstQuote line (Some place) = (place < length line) × (list_any is_quote (take place line) ≡ false) × (is_quote (slice_index line place) ≡ true)
+IsFirstQuote line (Some place) = (place < length line)
+    × (list_any is_quote (take place line) ≡ false) × (is_quote (slice_index line place) ≡ true)

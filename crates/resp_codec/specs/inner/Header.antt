@@ -6,7 +6,7 @@ use Rattle.resp_codec.specs.Stream.{IsUnfinished}
 use Rattle.resp_codec.specs.declared.header.Header.{Header}
 use Rattle.resp_codec.specs.declared.header.Header.TheVariants as answer
 
--- a text of so many bytes stands before the first CR LF, where a header may have it
+-- a text of this many bytes stands before the first CR LF, where a header may have it
 pub record IsHeaderLine (bytes : List ℕ) (end : ℕ) : Type 0 where
   pub within : end + 2 ≤ length bytes
   pub parts : bytes ≡ take end bytes ++ crlf ++ drop (end + 2) bytes
@@ -14,6 +14,9 @@ pub record IsHeaderLine (bytes : List ℕ) (end : ℕ) : Type 0 where
 
 -- what is answered to a look for a header at the front of these bytes is so wherever one is due
 abbrev pub Judges : List ℕ → Header → Type 0
-Judges bytes answer.Open = (before : List ℕ) → HeaderDue before bytes → IsUnfinished (before ++ bytes)
+Judges bytes answer.Open = (before : List ℕ) → HeaderDue before bytes
+    → IsUnfinished (before ++ bytes)
 Judges bytes (answer.Line end) = IsHeaderLine bytes end
-Judges bytes (answer.Bad kind place) = (place < length bytes) × ((before : List ℕ) → HeaderDue before bytes → BadAt (before ++ bytes) kind (length before + place))
+Judges bytes (answer.Bad kind place) = (place < length bytes)
+    × ((before : List ℕ) → HeaderDue before bytes
+    → BadAt (before ++ bytes) kind (length before + place))

@@ -5,7 +5,7 @@ use Rattle.resp_codec.specs.Inline.{IsLine}
 use Rattle.resp_codec.specs.declared.line.LineEnd.{LineEnd}
 use Rattle.resp_codec.specs.declared.line.LineEnd.TheVariants as found
 
--- so many bytes at the front are none of them this one, and no more than may stand before one
+-- this many bytes at the front are none of them this one, and no more than may stand before one
 pub record IsSearched (sought count : ℕ) (bytes : List ℕ) : Type 0 where
   pub within : count ≤ length bytes
   pub near : count ≤ 65537
@@ -18,11 +18,16 @@ pub record IsSearchEnd (sought count : ℕ) (bytes : List ℕ) : Type 0 where
 
 -- what was found at a place where CR LF is due
 abbrev pub IsFound : List ℕ → ℕ → LineEnd → Type 0
-IsFound bytes place found.Open = (length bytes ≤ place) ⊎ ((length bytes ≡ place + 1) × (slice_index bytes place ≡ 13))
-IsFound bytes place found.There = (place + 2 ≤ length bytes) × (slice_index bytes place ≡ 13) × (slice_index bytes (place + 1) ≡ 10)
-IsFound bytes place (found.Missing at) = ((at ≡ place) × (at < length bytes) × (slice_index bytes at ≢ 13)) ⊎ ((at ≡ place + 1) × (at < length bytes) × (slice_index bytes place ≡ 13) × (slice_index bytes at ≢ 10))
+IsFound bytes place found.Open = (length bytes ≤ place)
+    ⊎ ((length bytes ≡ place + 1) × (slice_index bytes place ≡ 13))
+IsFound bytes place found.There = (place + 2 ≤ length bytes) × (slice_index bytes place ≡ 13)
+    × (slice_index bytes (place + 1) ≡ 10)
+IsFound bytes place (found.Missing at) =
+    ((at ≡ place) × (at < length bytes) × (slice_index bytes at ≢ 13))
+    ⊎ ((at ≡ place + 1) × (at < length bytes) × (slice_index bytes place ≡ 13)
+    × (slice_index bytes at ≢ 10))
 
--- an inline line of so many bytes stands before the first LF
+-- an inline line of this many bytes stands before the first LF
 pub record IsInlineLine (bytes : List ℕ) (end : ℕ) : Type 0 where
   pub within : end + 1 ≤ length bytes
   pub parts : bytes ≡ take end bytes ++ 10 ∷ drop (end + 1) bytes

@@ -8,13 +8,17 @@ use Rattle.resp_codec.specs.declared.reading.Step.TheVariants as step
 
 -- the stream so far
 abbrev pub seen : Reading → Stream
-seen r = record { passed = r.passed; rest = begun r.stage r.count r.words.items ++ (r.word ++ r.input) }
+seen r = record {
+  passed = r.passed;
+  rest =
+      begun r.stage r.count r.words.items ++ (r.word ++ r.input);
+}
 
 -- of a word of this length all came, or nothing is left of the input
 abbrev pub IsGathered : ℕ → Reading → Type 0
 IsGathered len r = length r.word < len → r.input ≡ []
 
--- an answer is so, and what a step passed asks for nothing, or is what it took
+-- an answer is so, and what a step passed are empty requests, or is what it took
 abbrev pub Steps : Reading → Reading → Step → Type 0
 Steps old new step.Onward = SkipsOnly (seen old) (seen new) × (length new.input < length old.input)
 Steps old new (step.Took words) = Takes (seen old) (seen new) words

@@ -6,7 +6,7 @@ use Rattle.resp_codec.specs.Stream.{IsUnfinished}
 use Rattle.resp_codec.specs.declared.word.Word.{Word}
 use Rattle.resp_codec.specs.declared.word.Word.TheVariants as answer
 
--- a bulk string of this word begins the bytes, and takes so many
+-- a bulk string of this word begins the bytes, and takes this many
 pub record BeginsBulk (bytes word : List ℕ) (size : ℕ) : Type 0 where
   pub is_word : IsWord word
   pub takes : size ≡ length (bulk word)
@@ -16,4 +16,5 @@ pub record BeginsBulk (bytes word : List ℕ) (size : ℕ) : Type 0 where
 abbrev pub JudgesWord : List ℕ → Word → Type 0
 JudgesWord bytes (answer.Whole word size) = BeginsBulk bytes word size
 JudgesWord bytes answer.Open = (before : List ℕ) → IsBegun before → IsUnfinished (before ++ bytes)
-JudgesWord bytes (answer.Bad kind place) = (place < length bytes) × ((before : List ℕ) → IsBegun before → BadAt (before ++ bytes) kind (length before + place))
+JudgesWord bytes (answer.Bad kind place) = (place < length bytes)
+    × ((before : List ℕ) → IsBegun before → BadAt (before ++ bytes) kind (length before + place))

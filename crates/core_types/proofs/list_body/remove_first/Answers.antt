@@ -1,4 +1,4 @@
-use Rattle.std.proofs.Common.{◌≡◌, ◌+◌, ◌-◌, ◌≤◌, ◌<◌, ℕ, List, ◌++◌, take, drop, suc, length, refl, ap, sym, subst, ◌∙◌, arith, if◌then◌else◌}
+use Rattle.std.proofs.Common.{◌≡◌, ◌+◌, ◌-◌, ◌<◌, suc, length, ◌∙◌, arith, if◌then◌else◌}
 use Rattle.core_types.specs.Equal.{without_first}
 use Rattle.core_types.proofs.Rounds.{step, within, one_at_most, going_round}
 use Rattle.core_types.proofs.list_body.remove_first.Goals as goal

@@ -1,5 +1,5 @@
 -- serves clauses `left` and `count` of ListBody::remove_first
-use Rattle.std.proofs.Common.{◌≡◌, ◌+◌, ◌-◌, ◌≤◌, ◌++◌, take, drop, reverse}
+use Rattle.std.proofs.Common.{◌≡◌, ◌+◌, ◌-◌, ◌≤◌, ◌++◌, take, drop}
 use Rattle.std.specs.VecDeque.{deque_len}
 use Rattle.core_types.specs.Equal.{without_first}
 use Rattle.core_types.proofs.list_body.remove_first.Given as goal

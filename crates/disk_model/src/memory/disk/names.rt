@@ -22,7 +22,13 @@ impl Model for Names {
 
     ghost Value = { Names };
 
-    ghost view = { λ n. record { log = n.log; log_temp = n.log_temp; dump = n.dump; dump_temp = n.dump_temp } };
+    ghost view = { λ n. record {
+      log = n.log;
+      log_temp = n.log_temp;
+      dump = n.dump;
+      dump_temp =
+          n.dump_temp;
+    } };
 }
 
 /// A change of the names.

@@ -18,7 +18,7 @@ pub(crate) struct Change {
 enum WhatChanged {
     // These bytes were added at the end.
     Added(Blob),
-    // Only so many bytes were kept.
+    // Only this many bytes were kept.
     CutTo(u64),
 }
 
@@ -41,7 +41,7 @@ impl Change {
         }
     }
 
-    /// Only so many bytes are kept.
+    /// Only this many bytes are kept.
     pub(crate) fn cut_to(length: u64) -> Change
         ensures cut { result ≡ Spoken.CutTo length }
     {
@@ -63,7 +63,7 @@ impl Change {
         }
     }
 
-    // Makes the first steps of the change, so many, and answers how many are left.
+    // Makes this many of the first steps of the change, and answers how many are left.
     fn step(&self, bytes: &mut Blob, steps: usize) -> Result<usize, NoMemory>
         ensures stepped { OnOk result (bytes.new ≡ stepped steps bytes.old self.now) }
         ensures left { IfOk result (λ left. left ≡ steps - steps_of bytes.old self.now) }
@@ -127,9 +127,10 @@ impl Stored {
         Ok(())
     }
 
-    /// The synced bytes, and the first steps of the changes since, so many.
+    /// The synced bytes, and this many of the first steps of the changes since.
     pub(crate) fn after_steps(&self, alloc: Global, steps: usize) -> Result<Blob, NoMemory>
-        ensures bytes { IfOk result (λ bytes. bytes ≡ after_steps steps self.now.synced self.now.changes) }
+        ensures bytes { IfOk result
+            (λ bytes. bytes ≡ after_steps steps self.now.synced self.now.changes) }
     {
         let mut bytes = self.synced.copy(alloc)?;
         step_all(&mut bytes, &self.changes, steps)?;
@@ -147,7 +148,7 @@ fn change_all(bytes: &mut Blob, changes: &[Change]) -> Result<(), NoMemory>
     Ok(())
 }
 
-// Makes the first steps of the changes, so many.
+// Makes this many of the first steps of the changes.
 fn step_all(bytes: &mut Blob, changes: &[Change], steps: usize) -> Result<(), NoMemory>
     ensures stepped { OnOk result (bytes.new ≡ after_steps steps bytes.old changes.now) }
 {

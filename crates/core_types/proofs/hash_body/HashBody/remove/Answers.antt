@@ -1,4 +1,4 @@
-use Rattle.std.proofs.Common.{◌∙◌, ap, sym}
+use Rattle.std.proofs.Common.{◌∙◌, ap}
 use Rattle.core_types.specs.Fields.{field_value, without_field}
 use Rattle.core_types.specs.HashEntries.{fields_of}
 use Rattle.core_types.proofs.FieldLemmas.{value-fields_of, fields_of-remove}
