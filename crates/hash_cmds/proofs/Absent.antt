@@ -1,8 +1,6 @@
 -- A command on a key that is not there. Serves clause does of run_absent.
-use Rattle.std.proofs.Common.{◌≡◌, ◌≢◌, ◌⊎◌, inl, inr, ◌-◌, ℕ, ℤ, pos, Bool, true, false, List, [], ◌∷◌, length, drop, codes, Option, Some, None, if◌then◌else◌, refl, sym, ap, ◌∙◌, subst, arith}
-use Rattle.std.specs.Prelude.{◌==◌, ◌+ℤ◌}
-use Rattle.core_types.specs.Done.{Change, Done, Does, Makes, answers}
-use Rattle.core_types.specs.declared.effect.Effect.{Effect}
+use Rattle.std.proofs.Common.{◌≡◌, ◌≢◌, ◌⊎◌, inl, inr, ℕ, Bool, true, false, List, [], drop, Option, Some, None, if◌then◌else◌, refl, sym, ◌∙◌, subst, arith}
+use Rattle.core_types.specs.Done.{Change, Done, Does, Makes}
 use Rattle.core_types.specs.declared.field.Field.{Field}
 use Rattle.core_types.specs.declared.outcome.After.{After}
 use Rattle.core_types.specs.declared.outcome.After.TheVariants as after

@@ -1,18 +1,18 @@
 -- Serves the clause of limits_are_kept.
-use Rattle.std.proofs.Common.{◌≡◌, ◌≤◌, ◌<◌, ◌+◌, ◌-◌, if◌then◌else◌, ℕ, zero, suc, ℤ, pos, Bool, true, false, List, [], ◌∷◌, length, drop, codes, Option, Some, None, is_some, refl, arith}
+use Rattle.std.proofs.Common.{◌≡◌, ◌≤◌, ◌<◌, ◌-◌, if◌then◌else◌, ℕ, zero, suc, ℤ, pos, Bool, true, false, List, [], ◌∷◌, ◌∙◌, length, map, drop, codes, Option, Some, None, is_some, refl, arith}
 use Rattle.std.specs.Prelude.{◌+ℤ◌, ◌==◌, nat_le}
-use Rattle.std.specs.List.{AllByRecursion}
+use Rattle.std.specs.Cmp.Lexicographic.{nat_list_eq_equiv}
+use Rattle.std.specs.List.{AllByRecursion, IsDistinct}
 use Rattle.std.specs.Fmt.{signed_decimal}
 use Rattle.std.specs.Str.{bytes_eq}
 use Rattle.std.proofs.lemmas.Bool.Decides.{nat_tests}
 use Rattle.byte_text.specs.Number.{fits_i64, i64_of}
 use Rattle.byte_text.proofs.Decimals.{is_fit, signed_decimal-short}
 use Rattle.core_types.specs.CommandRow.{MeetArity}
-use Rattle.core_types.specs.Done.{Change, Done, answers, changes, own_words, word}
-use Rattle.core_types.specs.Fields.{field_value, with_field, with_fields, without_field}
+use Rattle.core_types.specs.Done.{Done, answers, word}
+use Rattle.core_types.specs.Fields.{AreDistinct, field_value, with_field, with_fields, without_field}
 use Rattle.core_types.specs.Keyspace.{IsFieldOfStrings, IsString}
 use Rattle.core_types.specs.declared.field.Field.{Field}
-use Rattle.core_types.specs.declared.note.Note.{Note}
 use Rattle.core_types.specs.declared.reply.Reply.{Reply}
 use Rattle.core_types.specs.declared.reply.Reply.TheVariants as reply
 use Rattle.hash_cmds.specs.declared.command.HashCmd.{HashCmd}
@@ -20,14 +20,17 @@ use Rattle.hash_cmds.specs.declared.command.HashCmd.TheVariants as command
 use Rattle.hash_cmds.specs.Commands.{command_row}
 use Rattle.hash_cmds.specs.Words.{fields_held, no_number, no_pairs, number, pairs, unless_wrong}
 use Rattle.hash_cmds.specs.Setting.{set_fields, sets, with_pairs}
-use Rattle.hash_cmds.specs.Removing.{remove_fields, removed, removes, without_fields}
-use Rattle.hash_cmds.specs.Counting.{add, adds, becomes_number, number_held}
+use Rattle.hash_cmds.specs.Removing.{remove_fields, removes, without_fields}
+use Rattle.hash_cmds.specs.Counting.{add, adds, number_held}
 use Rattle.hash_cmds.specs.Rows.{row}
-use Rattle.hash_cmds.specs.Laws.{IsKept, IsSmallEffect, IsWithinLimits, KeepsLimits}
+use Rattle.hash_cmds.specs.Laws.{IsKept, IsWithinLimits, KeepsLimits}
 use Rattle.hash_cmds.proofs.Lengths.{length-with_fields}
 
 abbrev pub AreShort : List Field → Type 0
 AreShort fields = AllByRecursion IsFieldOfStrings fields
+
+abbrev names : List Field → List (List ℕ)
+names fields = map (λ field. field.name) fields
 
 short_word : (place : ℕ) (words : List (List ℕ)) → AllByRecursion IsString words → IsString (word place words)
 unfolding word
@@ -71,6 +74,55 @@ short_without_all : (fields : List Field) (names : List (List ℕ)) → AreShort
 short_without_all fields [] h = h
 short_without_all fields (name ∷ names) h = short_without_all (without_field fields name) names (short_without fields name h)
 
+-- ---- no name stands twice
+
+apart_with : (name : List ℕ) (fields : List Field) (new : Field) → AllByRecursion (λ other. bytes_eq name other ≡ false) (names fields) → bytes_eq name new.name ≡ false
+    → AllByRecursion (λ other. bytes_eq name other ≡ false) (names (with_field fields new))
+apart_with name [] new h k = (k, tt)
+apart_with name (field ∷ fields) new h k = by (bytes_eq new.name field.name) (apart_with name fields new h.1 k)
+  where
+    by : (b : Bool) → AllByRecursion (λ other. bytes_eq name other ≡ false) (names (with_field fields new))
+        → AllByRecursion (λ other. bytes_eq name other ≡ false) (names (if b then (record field { value = new.value }) ∷ fields else field ∷ with_field fields new))
+    by true rest = h
+    by false rest = (h.0, rest)
+
+distinct_with : (fields : List Field) (new : Field) → AreDistinct fields → AreDistinct (with_field fields new)
+unfolding IsDistinct
+distinct_with [] new h = (tt, tt)
+distinct_with (field ∷ fields) new h = by (bytes_eq new.name field.name) refl (distinct_with fields new h.1)
+  where
+    by : (b : Bool) → bytes_eq new.name field.name ≡ b → AreDistinct (with_field fields new)
+        → AreDistinct (if b then (record field { value = new.value }) ∷ fields else field ∷ with_field fields new)
+    by true same rest = h
+    by false other rest = (apart_with field.name fields new h.0 (nat_list_eq_equiv.symm field.name new.name ∙ other), rest)
+
+distinct_with_all : (fields news : List Field) → AreDistinct fields → AreDistinct (with_fields fields news)
+distinct_with_all fields [] h = h
+distinct_with_all fields (new ∷ news) h = distinct_with_all (with_field fields new) news (distinct_with fields new h)
+
+apart_without : (name : List ℕ) (fields : List Field) (gone : List ℕ) → AllByRecursion (λ other. bytes_eq name other ≡ false) (names fields)
+    → AllByRecursion (λ other. bytes_eq name other ≡ false) (names (without_field fields gone))
+apart_without name [] gone h = tt
+apart_without name (field ∷ fields) gone h = by (bytes_eq gone field.name) (apart_without name fields gone h.1)
+  where
+    by : (b : Bool) → AllByRecursion (λ other. bytes_eq name other ≡ false) (names (without_field fields gone))
+        → AllByRecursion (λ other. bytes_eq name other ≡ false) (names (if b then fields else field ∷ without_field fields gone))
+    by true rest = h.1
+    by false rest = (h.0, rest)
+
+distinct_without : (fields : List Field) (gone : List ℕ) → AreDistinct fields → AreDistinct (without_field fields gone)
+unfolding IsDistinct
+distinct_without [] gone h = h
+distinct_without (field ∷ fields) gone h = by (bytes_eq gone field.name) (distinct_without fields gone h.1)
+  where
+    by : (b : Bool) → AreDistinct (without_field fields gone) → AreDistinct (if b then fields else field ∷ without_field fields gone)
+    by true rest = h.1
+    by false rest = (apart_without field.name fields gone h.0, rest)
+
+distinct_without_all : (fields : List Field) (names : List (List ℕ)) → AreDistinct fields → AreDistinct (without_fields fields names)
+distinct_without_all fields [] h = h
+distinct_without_all fields (name ∷ names) h = distinct_without_all (without_field fields name) names (distinct_without fields name h)
+
 some_with : (fields : List Field) (new : Field) → 0 < length (with_field fields new)
 some_with [] new = omega arith
 some_with (field ∷ fields) new = by (bytes_eq new.name field.name)
@@ -97,6 +149,11 @@ held_short : (old : Option (List Field)) → IsKept old → AreShort (fields_hel
 held_short None h = tt
 held_short (Some fields) h = h.1
 
+held_distinct : (old : Option (List Field)) → IsKept old → AreDistinct (fields_held old)
+unfolding IsDistinct
+held_distinct None h = tt
+held_distinct (Some fields) h = h.2
+
 stays : (old : Option (List Field)) (said : Reply) → IsKept old → KeepsLimits old (answers said)
 stays old said h = record { value = h; effects = tt }
 
@@ -111,19 +168,23 @@ if_keeps old false d e h k = k
 sets_keep : (old : Option (List Field)) (said : Reply) (words : List (List ℕ)) → 4 ≤ length words → IsKept old → IsWithinLimits words → KeepsLimits old (sets (fields_held old) said words)
 sets_keep old said words size h k =
     record {
-      value = (some_pairs (fields_held old) words size, short_with_all (fields_held old) (pairs (drop 2 words)) (held_short old h) (short_pairs (drop 2 words) (short_rest 2 words k.each)));
+      value = (
+        some_pairs (fields_held old) words size,
+        short_with_all (fields_held old) (pairs (drop 2 words)) (held_short old h) (short_pairs (drop 2 words) (short_rest 2 words k.each)),
+        distinct_with_all (fields_held old) (pairs (drop 2 words)) (held_distinct old h),
+      );
       effects = (own_small (codes "HSET") words (omega arith) k, tt);
     }
 
-removes_keep : (old : Option (List Field)) (left : List Field) (count : ℕ) (words : List (List ℕ)) → AreShort left → IsWithinLimits words → KeepsLimits old (removes count left words)
+removes_keep : (old : Option (List Field)) (left : List Field) (count : ℕ) (words : List (List ℕ)) → AreShort left × AreDistinct left → IsWithinLimits words → KeepsLimits old (removes count left words)
 removes_keep old [] count words h k = record { value = tt; effects = (own_small (codes "HDEL") words (omega arith) k, tt) }
-removes_keep old (field ∷ left) count words h k = record { value = (omega arith, h); effects = (own_small (codes "HDEL") words (omega arith) k, tt) }
+removes_keep old (field ∷ left) count words h k = record { value = (omega arith, h.0, h.1); effects = (own_small (codes "HDEL") words (omega arith) k, tt) }
 
 remove_keeps : (old : Option (List Field)) (words : List (List ℕ)) → IsKept old → IsWithinLimits words → KeepsLimits old (remove_fields (fields_held old) words)
 remove_keeps old words h k =
     let left = without_fields (fields_held old) (drop 2 words) in
     if_keeps old (length (fields_held old) - length left == 0) (answers (reply.Int (pos 0))) (removes (length (fields_held old) - length left) left words)
-    (stays old _ h) (removes_keep old left _ words (short_without_all (fields_held old) (drop 2 words) (held_short old h)) k)
+    (stays old _ h) (removes_keep old left _ words (short_without_all (fields_held old) (drop 2 words) (held_short old h), distinct_without_all (fields_held old) (drop 2 words) (held_distinct old h)) k)
 
 number_short : (n : ℤ) → fits_i64 n ≡ true → IsString (signed_decimal n)
 number_short n e = let few = (signed_decimal-short n (is_fit n e)).few in omega (arith, few)
@@ -133,7 +194,11 @@ sum_keeps old amount n false words e h k = rw e (stays old _ h)
 sum_keeps old amount n true words e h k =
     let new : Field = record { name = word 2 words; value = signed_decimal (n +ℤ amount) } in
     rw e (record {
-      value = (some_with (fields_held old) new, short_with (fields_held old) new (held_short old h) (short_word 2 words k.each, number_short (n +ℤ amount) e));
+      value = (
+        some_with (fields_held old) new,
+        short_with (fields_held old) new (held_short old h) (short_word 2 words k.each, number_short (n +ℤ amount) e),
+        distinct_with (fields_held old) new (held_distinct old h),
+      );
       effects = (own_small (codes "HINCRBY") words (omega arith) k, tt);
     })
 

@@ -1,19 +1,14 @@
 -- What HDEL leaves. Serves clause does of remove_fields.
-use Rattle.std.proofs.Common.{◌≡◌, ◌≢◌, ◌+◌, ◌-◌, ◌≤◌, ◌++◌, ℕ, zero, suc, Bool, true, false, List, [], ◌∷◌, length, drop, codes, ℤ, pos, of_z, w64, Option, Some, None, if◌then◌else◌, refl, sym, ap, ◌∙◌, subst, arith, length-append}
-use Rattle.std.specs.Prelude.{◌==◌}
+use Rattle.std.proofs.Common.{◌≡◌, ◌-◌, ◌≤◌, ◌++◌, ℕ, suc, Bool, true, false, List, [], ◌∷◌, length, drop, ℤ, pos, of_z, w64, Option, Some, None, if◌then◌else◌, refl, sym, ap, ◌∙◌, subst, arith, length-append}
 use Rattle.std.specs.Option.{option_to_list}
 use Rattle.std.specs.Str.{bytes_eq}
-use Rattle.core_types.specs.Done.{Done, Does, answers, note_on_key, own_words}
+use Rattle.core_types.specs.Done.{answers}
 use Rattle.core_types.specs.Fields.{without_field}
-use Rattle.core_types.specs.declared.effect.Effect.{Effect}
 use Rattle.core_types.specs.declared.field.Field.{Field}
 use Rattle.core_types.specs.declared.note.Note.{Note}
-use Rattle.core_types.specs.declared.note.NoteClass.TheVariants as class
-use Rattle.core_types.specs.declared.outcome.After.TheVariants as after
 use Rattle.core_types.specs.declared.reply.Reply.TheVariants as reply
-use Rattle.hash_cmds.specs.Removing.{remove_fields, remove_notes, removed, removes, without_fields}
-use Rattle.hash_cmds.specs.Words.{hash_note}
-use Rattle.hash_cmds.proofs.Lengths.{length-without_field, length-without_fields}
+use Rattle.hash_cmds.specs.Removing.{remove_fields, without_fields}
+use Rattle.hash_cmds.proofs.Lengths.{length-without_fields}
 
 -- where no field went, the fields are the same
 same_without : (fields : List Field) (name : List ℕ) → length fields ≤ length (without_field fields name) → without_field fields name ≡ fields

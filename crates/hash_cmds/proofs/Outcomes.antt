@@ -1,5 +1,5 @@
 -- Serves clause does of the commands that change a hash.
-use Rattle.std.proofs.Common.{◌≡◌, List, Option, Some, None, refl, sym, ap, ◌∙◌, subst, FitsSigned, ℤ, ℕ, pos}
+use Rattle.std.proofs.Common.{◌≡◌, List, Option, Some, None, refl, sym, ap, subst, FitsSigned, ℤ, ℕ, pos}
 use Rattle.std.specs.Prelude.{◌+ℤ◌, unwrap_or}
 use Rattle.std.specs.Int.{w64}
 use Rattle.byte_text.specs.Number.{i64_of}

@@ -1,25 +1,23 @@
 -- Serves the clause of effects_remake_changes, and clauses hash and other of refusals_change_nothing.
-use Rattle.std.proofs.Common.{◌≡◌, ◌≢◌, ◌⊎◌, inl, inr, ◌+◌, ◌%◌, if◌then◌else◌, ℕ, ℤ, pos, Bool, true, false, List, [], ◌∷◌, length, drop, codes, Option, Some, None, is_some, refl, sym, ap, ◌∙◌, arith}
+use Rattle.std.proofs.Common.{◌≡◌, inl, inr, ◌%◌, if◌then◌else◌, ℕ, ℤ, pos, Bool, true, false, List, [], ◌∷◌, length, drop, codes, Option, Some, None, is_some, refl, sym, ap, ◌∙◌, arith}
 use Rattle.std.specs.Prelude.{◌+ℤ◌, ◌==◌}
 use Rattle.std.proofs.lemmas.Bool.Decides.{nat_tests}
 use Rattle.byte_text.specs.Number.{fits_i64, i64_of}
 use Rattle.core_types.specs.CommandRow.{MeetArity}
-use Rattle.core_types.specs.Done.{Change, Done, answers, own_words, word}
+use Rattle.core_types.specs.Done.{Done, answers, own_words, word}
 use Rattle.core_types.specs.Fields.{field_value}
 use Rattle.core_types.specs.declared.field.Field.{Field}
-use Rattle.core_types.specs.declared.note.Note.{Note}
-use Rattle.core_types.specs.declared.note.NoteClass.TheVariants as class
 use Rattle.core_types.specs.declared.reply.Reply.{Reply}
 use Rattle.core_types.specs.declared.reply.Reply.TheVariants as reply
 use Rattle.hash_cmds.specs.declared.command.HashCmd.{HashCmd}
 use Rattle.hash_cmds.specs.declared.command.HashCmd.TheVariants as command
 use Rattle.hash_cmds.specs.Commands.{command_row}
 use Rattle.hash_cmds.specs.Words.{fields_held, hash_note, no_number, no_pairs, number, unless_wrong}
-use Rattle.hash_cmds.specs.Setting.{set_fields, set_if_absent, sets}
+use Rattle.hash_cmds.specs.Setting.{set_fields, sets}
 use Rattle.hash_cmds.specs.Removing.{remove_fields, removed, removes, without_fields}
 use Rattle.hash_cmds.specs.Counting.{add, adds, becomes_number, number_held}
 use Rattle.hash_cmds.specs.Rows.{other_row, refusal, row}
-use Rattle.hash_cmds.specs.Laws.{Acts, ChangesAtMostOnce, ChangesNothing, ChangesOnce, IsRefusal, Remakes, gone_notes}
+use Rattle.hash_cmds.specs.Laws.{Acts, ChangesAtMostOnce, ChangesNothing, ChangesOnce, IsRefusal, Remakes}
 
 -- on a key that holds these fields or is not there
 abbrev pub on_hash : Option (List Field) → Acts

@@ -3,6 +3,7 @@ use Rattle.std.specs.Prelude.{◌≡◌, ◌≢◌, ◌<◌, ◌≤◌, ◌⊎�
 use Rattle.std.specs.List.{AllByRecursion}
 use Rattle.core_types.specs.CommandRow.{MeetArity}
 use Rattle.core_types.specs.Done.{Change, Done, changed, word}
+use Rattle.core_types.specs.Fields.{AreDistinct}
 use Rattle.core_types.specs.Keyspace.{IsFieldOfStrings, IsString}
 use Rattle.core_types.specs.declared.effect.Effect.{Effect}
 use Rattle.core_types.specs.declared.field.Field.{Field}
@@ -58,10 +59,11 @@ pub record ChangesOnce (acts : Acts) (key : List ℕ) (done : Done (List Field))
 abbrev pub ChangesAtMostOnce : Acts → List ℕ → Done (List Field) → Type 0
 ChangesAtMostOnce acts key done = ChangesNothing done ⊎ ChangesOnce acts key done
 
--- a hash has a field, and no name or value is longer than a string may be
+-- a hash has a field, no name or value is longer than a string may be, and no name stands twice
 abbrev pub IsKept : Option (List Field) → Type 0
 IsKept None = ⊤
-IsKept (Some fields) = (0 < length fields) × AllByRecursion IsFieldOfStrings fields
+IsKept (Some fields) =
+    (0 < length fields) × AllByRecursion IsFieldOfStrings fields × AreDistinct fields
 
 -- words that a request may have: at least one and at most 1,048,576, none longer than a string may
 -- be

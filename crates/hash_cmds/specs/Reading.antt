@@ -1,5 +1,5 @@
 -- The commands that answer what a hash holds, and change nothing.
-use Rattle.std.specs.Prelude.{ℕ, pos, Bool, true, false, if◌then◌else◌, List, [], ◌∷◌, length, map, drop, flat_map, Option, Some, None, is_some, unwrap_or}
+use Rattle.std.specs.Prelude.{ℕ, pos, Bool, if◌then◌else◌, List, [], ◌∷◌, length, map, drop, flat_map, Option, Some, None, is_some, unwrap_or}
 use Rattle.core_types.specs.Done.{Done, answers, word}
 use Rattle.core_types.specs.Fields.{field_value}
 use Rattle.core_types.specs.Parts.{parts_of}

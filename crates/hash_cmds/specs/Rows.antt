@@ -1,6 +1,6 @@
 -- What each command on a hash does to a key: one line a command, after the Redis command
 -- reference.
-use Rattle.std.specs.Prelude.{ℕ, List, codes, Option, Some, None}
+use Rattle.std.specs.Prelude.{ℕ, List, codes, Option, None}
 use Rattle.byte_text.specs.Number.{i64_of}
 use Rattle.core_types.specs.Done.{Done, refuses, word}
 use Rattle.core_types.specs.declared.field.Field.{Field}

@@ -1,5 +1,5 @@
 -- HSET, HMSET and HSETNX: they put fields.
-use Rattle.std.specs.Prelude.{ℕ, pos, ◌-◌, Bool, if◌then◌else◌, List, length, drop, codes, is_some}
+use Rattle.std.specs.Prelude.{ℕ, pos, ◌-◌, if◌then◌else◌, List, length, drop, codes, is_some}
 use Rattle.core_types.specs.Done.{Done, Change, answers, changes, own_words, word}
 use Rattle.core_types.specs.Fields.{field_value, with_fields}
 use Rattle.core_types.specs.declared.field.Field.{Field}

@@ -32,8 +32,8 @@ pub fn refusals_change_nothing()
 {}
 
 /// Where the words may be a request's and the hash that is held keeps the limits, the hash that is
-/// made keeps them too: it has a field, and no name or value is too long. An effect may be a
-/// request.
+/// made keeps them too: it has a field, no name or value is too long, and no name stands twice. An
+/// effect may be a request.
 pub fn limits_are_kept()
     ensures hash { (cmd : HashCmd) (old : Option (List Field)) (words : List (List ℕ))
         → MeetArity (command_row cmd) words

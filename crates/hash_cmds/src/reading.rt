@@ -70,15 +70,10 @@ fn values(alloc: Global, hash: &HashBody, names: &[Blob]) -> Result<Replies, NoM
 }
 
 /// `HLEN k`.
-pub(crate) fn count_fields(alloc: Global, hash: &HashBody) -> Result<Outcome<HashBody>, NoMemory>
-    ensures { IfOk result
-        (λ o. (old : Option (List Field)) → Does o old old (count_fields hash.now)) }
+pub(crate) fn count_fields(alloc: Global, hash: &HashBody) -> Outcome<HashBody>
+    ensures { (old : Option (List Field)) → Does result old old (count_fields hash.now) }
 {
-    // There is no memory for 2^63 fields.
-    match i64::try_from(hash.len()) {
-        Ok(count) => Ok(Outcome::answer(alloc, Reply::Int(count))),
-        Err(_) => Err(NoMemory),
-    }
+    Outcome::answer(alloc, Reply::Int(hash.len() as i64))
 }
 
 /// `HEXISTS k f`.

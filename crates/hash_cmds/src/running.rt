@@ -120,7 +120,7 @@ fn serve(
         HashCmd::HGet => get(alloc, hash, words),
         HashCmd::HMGet => get_each(alloc, hash, words),
         HashCmd::HDel => remove_fields(alloc, hash, words),
-        HashCmd::HLen => count_fields(alloc, hash),
+        HashCmd::HLen => Ok(count_fields(alloc, hash)),
         HashCmd::HExists => Ok(exists(alloc, hash, words)),
         HashCmd::HStrLen => Ok(value_length(alloc, hash, words)),
         HashCmd::HKeys => show_fields(alloc, hash, Shown::Names),

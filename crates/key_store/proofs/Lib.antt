@@ -1,3 +1,6 @@
 mod Trees
 mod Moves
 mod Shown
+mod DueTree
+mod Indexes
+mod Soonest

@@ -79,7 +79,3 @@ module _ {N : Type 0} where
       subst (λ o. OnSome o (end ≡ with_entry keys key entry)) is ends
       ∙ ap (with_entry keys key) new
       ∙ ap (with_due keys key at) (ap option_copied_mut (sym is) ∙ found)
-
-  pub undated : (keys end : KeysOf N) (key : List ℕ) (at : Option ℕ) (lent : Option (MutBor (Entry N)))
-      → lent ≡ None → option_copied_mut lent ≡ entry_at keys key → end ≡ keys → end ≡ with_deadline keys key at
-  undated keys end key at lent is found same = same ∙ ap (with_due keys key at) (ap option_copied_mut (sym is) ∙ found)

@@ -1,14 +1,11 @@
--- The entries of the table as they are shown. Serves the clauses of `iter`, `pop_first` and `next_due`.
-use Rattle.std.proofs.Common.{◌≡◌, refl, sym, ap, ◌∙◌, arith, ℕ, List, [], ◌∷◌, map, Option, Some, None, slice_get}
+-- The entries of the table as they are shown. Serves the clauses of `iter` and `pop_first`.
+use Rattle.std.proofs.Common.{◌≡◌, refl, sym, ap, ◌∙◌, ℕ, List, [], ◌∷◌, map, Option, Some, None, slice_get}
 use Rattle.std.specs.Option.{option_map}
-use Rattle.std.specs.List.{cons_option}
 use Rattle.std.specs.FinMap as finite
 use Rattle.std.proofs.lemmas.Option.{slice_get-map}
 use Rattle.core_types.specs.declared.value.Value.{Value}
 use Rattle.core_types.specs.Keys.{Entry, KeysOf}
 use Rattle.key_store.specs.Listing.{listed}
-use Rattle.key_store.specs.NextDue.{Due, sooner, soonest}
-use Rattle.key_store.specs.inner.Sooner.{either}
 
 module _ {K N : Type 0} (read : K → List ℕ) where
   abbrev pub shown : K × Entry N → List ℕ × Value N
@@ -29,16 +26,3 @@ module _ {K N : Type 0} (read : K → List ℕ) where
   first_shown taken keys is =
       shown_once taken ∙ ap (option_map (λ (e : List ℕ × Entry N). (e.0, e.1.value))) is
       ∙ sym (slice_get-map (λ (e : List ℕ × Entry N). (e.0, e.1.value)) (finite.entries keys) 0)
-
-sooner_of_three : (x y z : Due) → sooner (sooner x (Some y)) (Some z) ≡ sooner x (Some (sooner y (Some z)))
-sooner_of_three x y z = grind arith
-
-pub either_of_three : (a b c : Option Due) → either (either a b) c ≡ either a (either b c)
-either_of_three None b c = refl
-either_of_three (Some x) None c = refl
-either_of_three (Some x) (Some y) None = refl
-either_of_three (Some x) (Some y) (Some z) = ap Some (sooner_of_three x y z)
-
-pub soonest-cons : (due : Option Due) (dues : List Due) → soonest (cons_option due dues) ≡ either due (soonest dues)
-soonest-cons None dues = refl
-soonest-cons (Some due) dues = refl

@@ -11,7 +11,9 @@ abbrev pub bytes_code : Coded (List ℕ)
 bytes_code = coded_list coded_ℕ
 
 abbrev pub field_code : Coded Field
-field_code = code_by (List ℕ × List ℕ) (coded× bytes_code bytes_code) (λ f. (f.name, f.value)) (λ p. record { name = p.0; value = p.1 }) (λ _. refl)
+field_code =
+    code_by (List ℕ × List ℕ) (coded× bytes_code bytes_code)
+    (λ f. (f.name, f.value)) (λ p. record { name = p.0; value = p.1 }) (λ _. refl)
 
 -- a value by its kind: a string, a list, a hash or one of a module
 abbrev pub Kinds : Type 0 → Type 0
@@ -37,7 +39,12 @@ module _ {N : Type 0} where
   kind_and_back (value.Native native) = refl
 
   abbrev pub value_code : Coded N → Coded (Value N)
-  value_code native = code_by (Kinds N) (coded⊎ bytes_code (coded⊎ (coded_list bytes_code) (coded⊎ (coded_list field_code) native))) by_kind of_kind kind_and_back
+  value_code native =
+      code_by (Kinds N)
+      (coded⊎ bytes_code (coded⊎ (coded_list bytes_code) (coded⊎ (coded_list field_code) native)))
+      by_kind of_kind kind_and_back
 
   abbrev pub entry_code : Coded N → Coded (Entry N)
-  entry_code native = code_by (Value N × Option ℕ) (coded× (value_code native) (coded_option coded_ℕ)) (λ e. (e.value, e.deadline)) (λ p. record { value = p.0; deadline = p.1 }) (λ _. refl)
+  entry_code native =
+      code_by (Value N × Option ℕ) (coded× (value_code native) (coded_option coded_ℕ))
+      (λ e. (e.value, e.deadline)) (λ p. record { value = p.0; deadline = p.1 }) (λ _. refl)

@@ -22,14 +22,17 @@ soonest (due ∷ dues) = Some (sooner due (soonest dues))
 
 -- a key with this deadline, where it is due now
 abbrev pub due_at : ℕ → List ℕ → Option ℕ → Option Due
-due_at now key deadline = option_and_then (λ moment. if nat_le moment now then Some (record { key = key; moment = moment }) else None) deadline
+due_at now key deadline =
+    option_and_then
+    (λ moment. if nat_le moment now then Some (record { key = key; moment = moment }) else None)
+    deadline
 
 module _ {N : Type 0} where
   -- those of the entries that are due now, in their order
   abbrev pub dues : ℕ → List (List ℕ × Entry N) → List Due
   dues now entries = filter_map (λ e. due_at now e.0 e.1.deadline) entries
 
-  -- the key that is due first: of those whose deadline is at most now the one of the least deadline, and of
-  -- several of that deadline the first in byte order
+  -- the key that is due first: of those whose deadline is at most now the one of the least
+  -- deadline, and of several of that deadline the first in byte order
   abbrev pub next_due : KeysOf N → ℕ → Option (List ℕ)
   next_due keys now = option_map (λ due. due.key) (soonest (dues now (finite.entries keys)))

@@ -1,5 +1,5 @@
 -- What the inner functions' clauses cite.
 pub mod Held
+pub mod Index
 pub mod Lending
 pub mod LendingValue
-pub mod Sooner

@@ -1,51 +1,95 @@
-//! The key that is due first.
+//! The deadlines of the keys, in order.
 
-ghost use Rattle.std.specs.Prelude.{◌≡◌, Option, map};
+ghost use Rattle.std.specs.Prelude.{◌≡◌, OnOk, OnErr};
 ghost use Rattle.std.specs.Option.{option_map};
-ghost use Rattle.key_store.specs.NextDue.{due_at, dues, soonest};
-ghost use Rattle.key_store.specs.inner.Sooner.{either, seen};
+ghost use Rattle.std.specs.FinSet as set;
+ghost use Rattle.key_store.specs.inner.Index.{due_of, unless_same, entered, taken_out, IsEarliest};
 
-use crate::stored::Stored;
-use std::collections::btree_map::Iter;
+use core_types::NoMemory;
+use std::alloc::Global;
+use std::collections::BTreeSet;
+use std::marker::Model;
 
-/// A key, and the moment at which it is due.
-#[derive(Clone, Copy)]
-pub(crate) struct Due<'a> {
-    moment: u64,
-    key: &'a [u8],
+/// A key, and the moment in milliseconds at which it is due. They are ordered by moment, and then
+/// by key in byte order.
+#[derive(Debug, PartialEq, Eq, PartialOrd, Ord, Drop)]
+pub(crate) struct Due {
+    pub moment: u64,
+    pub key: Vec<u8>,
 }
 
-/// Of the entries that are due now, the key of the one that is due first.
-pub(crate) fn first_due<'a, N>(entries: Iter<'a, Vec<u8>, Stored<N>>, now: u64) -> Option<&'a [u8]>
-    ensures { option_map (λ key. key.now) result ≡ option_map (λ due. due.key) (soonest (dues now (map (λ e. (e.0.items, e.1)) entries.entry))) }
-{
-    let mut first: Option<Due<'a>> = None;
-    for (key, stored) in entries {
-        first = sooner(first, key.as_slice(), stored.deadline(), now);
+/// The keys that have a deadline, in the order in which they are due. Every call is O(log n); only
+/// `insert` takes memory.
+#[derive(Debug, Drop)]
+pub(crate) struct Dues {
+    dues: BTreeSet<Due>,
+}
+
+impl Model for Dues {
+    ghost use Rattle.std.specs.Prelude.{map};
+    ghost use Rattle.std.specs.FinSet.{FinSet, from_list, code};
+    ghost use Rattle.key_store.specs.inner.Index.{due_cmp, due_code, due_of};
+
+    ghost Value = { FinSet due_cmp };
+
+    ghost coded = { code due_code };
+
+    ghost view = { λ d. from_list (map due_of d.dues.keys) };
+}
+
+impl Dues {
+    pub(crate) fn new(alloc: Global) -> Dues
+        ensures empty { result ≡ set.empty }
+    {
+        Dues {
+            dues: BTreeSet::new(alloc),
+        }
     }
-    match first {
-        Some(due) => Some(due.key),
-        None => None,
+
+    // The first, or `None` where no key has a deadline.
+    pub(crate) fn first(&self) -> Option<&Due>
+        ensures earliest { IsEarliest self.now (option_map (λ due. due_of due.now) result) }
+    {
+        self.dues.first()
+    }
+
+    // Enters a key at its deadline, where it has one.
+    pub(crate) fn insert(
+        &mut self,
+        alloc: Global,
+        key: &[u8],
+        deadline: Option<u64>,
+    ) -> Result<(), NoMemory>
+        ensures ok { OnOk result (self.new ≡ entered self.old key.now deadline) }
+        ensures err { OnErr result (self.new ≡ self.old) }
+    {
+        if let Some(moment) = deadline {
+            let key = Vec::from_slice(alloc, key)?;
+            self.dues.insert(Due { moment, key })?;
+        }
+        Ok(())
+    }
+
+    // Takes out a key at its deadline, where it has one, and gives the key back.
+    pub(crate) fn remove(&mut self, key: Vec<u8>, deadline: Option<u64>) -> Vec<u8>
+        ensures key { result ≡ key }
+        ensures removed { self.new ≡ taken_out self.old key.items deadline }
+    {
+        let Some(moment) = deadline else {
+            return key;
+        };
+        let due = Due { moment, key };
+        let _ = self.dues.remove(&due);
+        due.key
     }
 }
 
-// The first, or a key after it where that is due now and sooner.
-fn sooner<'a>(
-    first: Option<Due<'a>>,
-    key: &'a [u8],
-    deadline: Option<u64>,
-    now: u64,
-) -> Option<Due<'a>>
-    ensures { seen result ≡ either (seen first.entry) (due_at now key.entry.now deadline) }
+/// The moment of one deadline where another is not the same.
+pub(crate) fn unless_same(deadline: Option<u64>, other: Option<u64>) -> Option<u64>
+    ensures { result ≡ unless_same deadline other }
 {
-    let Some(moment) = deadline else {
-        return first;
-    };
-    if moment > now {
-        return first;
-    }
-    match first {
-        Some(due) if due.moment <= moment => first,
-        _ => Some(Due { moment, key }),
+    match (deadline, other) {
+        (Some(moment), Some(other)) if moment == other => None,
+        _ => deadline,
     }
 }

@@ -9,7 +9,8 @@ use core_types::Value;
 use std::collections::btree_map::Iter;
 use std::marker::Model;
 
-/// The keys of a store in byte order, each with its value. It is seen as the list of those that are left.
+/// The keys of a store in byte order, each with its value. It is seen as the list of those that are
+/// left.
 #[derive(Drop)]
 pub struct Entries<'a, N> {
     entries: Iter<'a, Vec<u8>, Stored<N>>,

@@ -1,6 +1,6 @@
 //! The store of keys.
 
-ghost use Rattle.std.specs.Prelude.{◌≡◌, ◌≢◌, None, map, slice_get, length, IsSome, IfOk, IfErr, OnOk, OnErr};
+ghost use Rattle.std.specs.Prelude.{◌≡◌, ◌≢◌, ◌<◌, ◌^◌, None, map, slice_get, length, IsSome, IfOk, IfErr, OnOk, OnErr};
 ghost use Rattle.std.specs.Option.{option_copied, option_copied_mut, option_map, MatchOption};
 ghost use Rattle.std.specs.Borrow.{sem};
 ghost use Rattle.core_types.specs.Keys.{no_keys, value_at, deadline_at, with_value, with_deadline, without, renamed, key_count};
@@ -8,9 +8,9 @@ ghost use Rattle.key_store.specs.Lending.{LendsValueOf};
 ghost use Rattle.key_store.specs.Listing.{listed};
 ghost use Rattle.key_store.specs.NextDue.{next_due};
 
-use crate::due::first_due;
+use crate::due::{Dues, unless_same};
 use crate::stored::Stored;
-use crate::table::Table;
+use crate::table::{Renamed, Table};
 use crate::{Entries, PutBack};
 use core_types::{Blob, NoMemory, Value};
 use std::alloc::Global;
@@ -20,6 +20,7 @@ use std::marker::Model;
 #[derive(Drop)]
 pub struct KeyStore<N> {
     table: Table<N>,
+    dues: Dues,
     alloc: Global,
 }
 
@@ -27,12 +28,15 @@ impl<N> Model for KeyStore<N> {
     ghost use Rattle.std.specs.FinMap.{code};
     ghost use Rattle.core_types.specs.Keys.{KeysOf};
     ghost use Rattle.key_store.specs.Codes.{bytes_code, entry_code};
+    ghost use Rattle.key_store.specs.inner.Index.{IsIndexed};
 
     ghost Value = { KeysOf N };
 
     ghost coded = { code bytes_code (entry_code N.code) };
 
     ghost view = { λ s. s.table };
+
+    ghost invariant = { λ s. IsIndexed s.dues s.table };
 }
 
 impl<N> KeyStore<N> {
@@ -42,6 +46,7 @@ impl<N> KeyStore<N> {
     {
         KeyStore {
             table: Table::new(alloc),
+            dues: Dues::new(alloc),
             alloc,
         }
     }
@@ -50,7 +55,11 @@ impl<N> KeyStore<N> {
     pub fn close(self)
         requires empty { key_count self ≡ 0 }
     {
-        let KeyStore { table, alloc: _ } = self;
+        let KeyStore {
+            table,
+            dues: _,
+            alloc: _,
+        } = self;
         table.close();
     }
 
@@ -64,8 +73,8 @@ impl<N> KeyStore<N> {
         }
     }
 
-    /// The value of a key, to be changed in its place, or `None` where the key is not there. The key keeps its
-    /// deadline.
+    /// The value of a key, to be changed in its place, or `None` where the key is not there. The
+    /// key keeps its deadline.
     pub fn get_mut(&mut self, key: &[u8]) -> Option<&mut Value<N>>
         ensures* writes_back { sem 𝓛 (LendsValueOf N.row self.entry key.now result) }
         ensures value { option_copied_mut result ≡ value_at self.old key.now }
@@ -76,19 +85,23 @@ impl<N> KeyStore<N> {
         }
     }
 
-    /// Takes a key out with its deadline, and gives its value, or `None` where the key is not there.
+    /// Takes a key out with its deadline, and gives its value, or `None` where the key is not
+    /// there.
     pub fn take(&mut self, key: &[u8]) -> Option<Value<N>>
         ensures value { result ≡ value_at self.old key.now }
         ensures taken { self.new ≡ without self.old key.now }
     {
         match self.table.remove(key) {
-            Some((_, stored)) => Some(stored.into_value()),
+            Some((key, stored)) => {
+                self.dues.remove(key, stored.deadline());
+                Some(stored.into_value())
+            }
             None => None,
         }
     }
 
-    /// Gives a key this value and no deadline, and gives back the value that it had. An `Err` changes nothing,
-    /// and gives the key and the value back.
+    /// Gives a key this value and no deadline, and gives back the value that it had. An `Err`
+    /// changes nothing, and gives the key and the value back.
     pub fn put(&mut self, key: Blob, value: Value<N>) -> Result<Option<Value<N>>, PutBack<N>>
         ensures before { IfOk result (λ before. before ≡ value_at self.old key) }
         ensures ok { OnOk result (self.new ≡ with_value self.old key value) }
@@ -96,8 +109,9 @@ impl<N> KeyStore<N> {
         ensures value_back { IfErr result (λ back. back.value ≡ value) }
         ensures err { OnErr result (self.new ≡ self.old) }
     {
-        let stored = Stored::new(value, None);
-        match self.table.insert(key.into_vec(), stored) {
+        let deadline = self.deadline(key.as_slice());
+        let key = self.dues.remove(key.into_vec(), deadline);
+        match self.table.insert(key, Stored::new(value, None)) {
             Ok(Some(before)) => Ok(Some(before.into_value())),
             Ok(None) => Ok(None),
             Err((key, stored)) => Err(PutBack {
@@ -107,8 +121,9 @@ impl<N> KeyStore<N> {
         }
     }
 
-    /// Moves what a key has to another key, with its deadline, and gives the value that the other key had. The
-    /// first key must be there, and the other must be another. An `Err` changes nothing.
+    /// Moves what a key has to another key, with its deadline, and gives the value that the other
+    /// key had. The first key must be there, and the other must be another. An `Err` changes
+    /// nothing.
     pub fn rename(&mut self, from: &[u8], to: Blob) -> Result<Option<Value<N>>, NoMemory>
         requires there { IsSome (value_at self.old from.now) }
         requires apart { from.now ≢ to }
@@ -116,15 +131,31 @@ impl<N> KeyStore<N> {
         ensures ok { OnOk result (self.new ≡ renamed self.old from.now to) }
         ensures err { OnErr result (self.new ≡ self.old) }
     {
-        match self.table.rename(self.alloc, from, to.into_vec())? {
-            Some(before) => Ok(Some(before.into_value())),
-            None => Ok(None),
+        let moved = self.deadline(from);
+        let there = self.deadline(to.as_slice());
+        let name = Vec::from_slice(self.alloc, to.as_slice())?;
+        let gained = unless_same(moved, there);
+        self.dues.insert(self.alloc, to.as_slice(), gained)?;
+        match self.table.rename(self.alloc, from, to.into_vec()) {
+            Ok(Renamed { name: left, before }) => {
+                self.dues.remove(name, unless_same(there, moved));
+                self.dues.remove(left, moved);
+                match before {
+                    Some(before) => Ok(Some(before.into_value())),
+                    None => Ok(None),
+                }
+            }
+            Err(NoMemory) => {
+                self.dues.remove(name, gained);
+                Err(NoMemory)
+            }
         }
     }
 
     /// The number of keys.
     pub fn len(&self) -> u64
         ensures count { result ≡ key_count self.now }
+        ensures small { result < 2 ^ 63 }
     {
         self.table.len() as u64
     }
@@ -136,18 +167,24 @@ impl<N> KeyStore<N> {
         Entries::new(self.table.iter())
     }
 
-    /// Takes out the least key in byte order, with its value, or gives `None` where there is no key.
+    /// Takes out the least key in byte order, with its value, or gives `None` where there is no
+    /// key.
     pub fn pop_first(&mut self) -> Option<(Blob, Value<N>)>
         ensures first { result ≡ slice_get (listed self.old) 0 }
-        ensures rest { MatchOption result (self.new ≡ self.old) (λ first. self.new ≡ without self.old first.0) }
+        ensures rest { MatchOption result (self.new ≡ self.old)
+            (λ first. self.new ≡ without self.old first.0) }
     {
         match self.table.pop_first() {
-            Some((key, stored)) => Some((Blob::from_vec(key), stored.into_value())),
+            Some((key, stored)) => {
+                let key = self.dues.remove(key, stored.deadline());
+                Some((Blob::from_vec(key), stored.into_value()))
+            }
             None => None,
         }
     }
 
-    /// The moment in milliseconds at which a key is due, or `None` where it has no deadline or is not there.
+    /// The moment in milliseconds at which a key is due, or `None` where it has no deadline or is
+    /// not there.
     pub fn deadline(&self, key: &[u8]) -> Option<u64>
         ensures deadline { result ≡ deadline_at self.now key.now }
     {
@@ -163,18 +200,23 @@ impl<N> KeyStore<N> {
         ensures ok { OnOk result (self.new ≡ with_deadline self.old key.now at) }
         ensures err { OnErr result (self.new ≡ self.old) }
     {
-        if let Some(stored) = self.table.get_mut(key) {
-            stored.set_deadline(at);
-        }
+        let before = self.deadline(key);
+        let name = Vec::from_slice(self.alloc, key)?;
+        self.dues.insert(self.alloc, key, unless_same(at, before))?;
+        self.table.set_deadline(key, at);
+        self.dues.remove(name, unless_same(before, at));
         Ok(())
     }
 
-    /// The key that is due first at this moment in milliseconds: of the keys whose deadline is at most `now` the
-    /// one of the least deadline, and of several of that deadline the least in byte order; `None` where no key
-    /// is due. It goes over the keys once.
+    /// The key that is due first at this moment in milliseconds: of the keys whose deadline is at
+    /// most `now` the one of the least deadline, and of several of that deadline the least in byte
+    /// order; `None` where no key is due.
     pub fn next_due(&self, now: u64) -> Option<&[u8]>
         ensures first { option_map (λ key. key.now) result ≡ next_due self.now now }
     {
-        first_due(self.table.iter(), now)
+        match self.dues.first() {
+            Some(due) if due.moment <= now => Some(due.key.as_slice()),
+            _ => None,
+        }
     }
 }

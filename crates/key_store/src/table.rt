@@ -1,10 +1,10 @@
 //! The tree of the keys.
 
-ghost use Rattle.std.specs.Prelude.{◌≡◌, ◌≢◌, None, Some, IsSome, map, slice_get, IfOk, IfErr, IfSome, OnOk, OnErr};
+ghost use Rattle.std.specs.Prelude.{◌≡◌, ◌≢◌, ◌<◌, ◌^◌, None, Some, IsSome, map, slice_get, IfOk, IfErr, IfSome, OnOk, OnErr};
 ghost use Rattle.std.specs.Option.{option_copied, option_copied_mut, option_map, MatchOption};
 ghost use Rattle.std.specs.Borrow.{sem};
 ghost use Rattle.std.specs.FinMap as finite;
-ghost use Rattle.core_types.specs.Keys.{no_keys, entry_at, with_entry, without, renamed, key_count};
+ghost use Rattle.core_types.specs.Keys.{no_keys, entry_at, with_deadline, with_entry, without, renamed, key_count};
 ghost use Rattle.key_store.specs.inner.Held.{held};
 ghost use Rattle.key_store.specs.inner.Lending.{LendsEntry};
 
@@ -14,6 +14,14 @@ use std::alloc::Global;
 use std::collections::BTreeMap;
 use std::collections::btree_map::Iter;
 use std::marker::Model;
+
+/// What a renaming leaves over.
+pub(crate) struct Renamed<N> {
+    /// The name that the key had.
+    pub name: Vec<u8>,
+    /// What its new name had.
+    pub before: Option<Stored<N>>,
+}
 
 /// The keys with what they have.
 #[derive(Drop)]
@@ -59,6 +67,7 @@ impl<N> Table<N> {
 
     pub(crate) fn len(&self) -> usize
         ensures count { result ≡ key_count self.now }
+        ensures small { result < 2 ^ 63 }
     {
         self.entries.len()
     }
@@ -99,8 +108,10 @@ impl<N> Table<N> {
 
     // Takes out the least key.
     pub(crate) fn pop_first(&mut self) -> Option<(Vec<u8>, Stored<N>)>
-        ensures first { option_map (λ p. (p.0.items, p.1)) result ≡ slice_get (finite.entries self.old) 0 }
-        ensures rest { MatchOption result (self.new ≡ self.old) (λ p. self.new ≡ without self.old p.0.items) }
+        ensures first { option_map (λ p. (p.0.items, p.1)) result
+            ≡ slice_get (finite.entries self.old) 0 }
+        ensures rest { MatchOption result (self.new ≡ self.old)
+            (λ p. self.new ≡ without self.old p.0.items) }
     {
         self.entries.pop_first()
     }
@@ -111,26 +122,36 @@ impl<N> Table<N> {
         self.entries.iter()
     }
 
+    // Gives a key that is there this deadline, or none. Takes no memory.
+    pub(crate) fn set_deadline(&mut self, key: &[u8], at: Option<u64>)
+        ensures set { self.new ≡ with_deadline self.old key.now at }
+    {
+        if let Some(stored) = self.get_mut(key) {
+            stored.set_deadline(at);
+        }
+    }
+
     // Moves what one key has to another.
     pub(crate) fn rename(
         &mut self,
         alloc: Global,
         from: &[u8],
         to: Vec<u8>,
-    ) -> Result<Option<Stored<N>>, NoMemory>
+    ) -> Result<Renamed<N>, NoMemory>
         requires there { IsSome (entry_at self.old from.now) }
         requires apart { from.now ≢ to.items }
-        ensures before { IfOk result (λ before. before ≡ entry_at self.old to.items) }
+        ensures name { IfOk result (λ done. done.name.items ≡ from.now) }
+        ensures before { IfOk result (λ done. done.before ≡ entry_at self.old to.items) }
         ensures ok { OnOk result (self.new ≡ renamed self.old from.now to.items) }
         ensures err { OnErr result (self.new ≡ self.old) }
     {
-        let name = Vec::from_slice(alloc, &to)?;
+        let new_name = Vec::from_slice(alloc, &to)?;
         let before = self.hold(alloc, to)?;
-        let Some((_, stored)) = self.remove(from) else {
+        let Some((name, stored)) = self.remove(from) else {
             unreachable!()
         };
-        self.fill(name, stored);
-        Ok(before)
+        self.fill(new_name, stored);
+        Ok(Renamed { name, before })
     }
 
     // Puts an empty string under a key, which takes the memory that the key needs.

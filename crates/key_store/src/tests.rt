@@ -12,10 +12,10 @@ fn put(alloc: Global, keys: &mut KeyStore<u64>, key: &[u8], number: u64) -> Resu
     }
 }
 
-// Gives a key a deadline, where it is there.
-fn date(keys: &mut KeyStore<u64>, key: &[u8], at: u64) -> Result<(), NoMemory> {
+// Gives a key a deadline or none, where it is there.
+fn date(keys: &mut KeyStore<u64>, key: &[u8], at: Option<u64>) -> Result<(), NoMemory> {
     if keys.get(key).is_some() {
-        keys.set_deadline(key, Some(at))?;
+        keys.set_deadline(key, at)?;
     }
     Ok(())
 }
@@ -41,9 +41,9 @@ fn three(alloc: Global) -> Result<KeyStore<u64>, NoMemory> {
     let _ = put(alloc, &mut keys, b"b", 2)?;
     let _ = put(alloc, &mut keys, b"c", 3)?;
     let _ = put(alloc, &mut keys, b"a", 1)?;
-    date(&mut keys, b"b", 100)?;
-    date(&mut keys, b"c", 50)?;
-    date(&mut keys, b"a", 100)?;
+    date(&mut keys, b"b", Some(100))?;
+    date(&mut keys, b"c", Some(50))?;
+    date(&mut keys, b"a", Some(100))?;
     Ok(keys)
 }
 
@@ -55,7 +55,8 @@ fn due(keys: &KeyStore<u64>, now: u64) -> Option<u8> {
     }
 }
 
-// Which key is due just before the least deadline, at it and later, and which one is then once `c` is gone.
+// Which key is due just before the least deadline, at it and later, and which one is then once `c`
+// is gone.
 fn dues(alloc: Global) -> Result<[Option<u8>; 4], NoMemory> {
     let mut keys = three(alloc)?;
     let early = due(&keys, 49);
@@ -65,8 +66,20 @@ fn dues(alloc: Global) -> Result<[Option<u8>; 4], NoMemory> {
     Ok([early, first, late, due(&keys, 100)])
 }
 
-// The deadlines of `c` and `d` once `c` was renamed to `d`, and that of `d` once it was put anew; and how many
-// keys there are then.
+// Which key is due at 49 once the deadline of `a` is 40, at 60 once it has none, and at 60 once `c`
+// was renamed to `b`, which had a deadline too.
+fn redated(alloc: Global) -> Result<[Option<u8>; 3], NoMemory> {
+    let mut keys = three(alloc)?;
+    date(&mut keys, b"a", Some(40))?;
+    let sooner = due(&keys, 49);
+    date(&mut keys, b"a", None)?;
+    let later = due(&keys, 60);
+    let _ = rename(alloc, &mut keys, b"c", b"b")?;
+    Ok([sooner, later, due(&keys, 60)])
+}
+
+// The deadlines of `c` and `d` once `c` was renamed to `d`, and that of `d` once it was put anew;
+// and how many keys there are then.
 fn moved(alloc: Global) -> Result<[Option<u64>; 4], NoMemory> {
     let mut keys = three(alloc)?;
     let _ = rename(alloc, &mut keys, b"c", b"d")?;
@@ -76,8 +89,8 @@ fn moved(alloc: Global) -> Result<[Option<u64>; 4], NoMemory> {
     Ok([from, to, keys.deadline(b"d"), Some(keys.len())])
 }
 
-// What is taken out of the front, by the first byte of its key and its number, after the number of `a` was
-// changed in its place; and its deadline before.
+// What is taken out of the front, by the first byte of its key and its number, after the number of
+// `a` was changed in its place; and its deadline before.
 fn front(alloc: Global) -> Result<(Option<u8>, Option<u64>, Option<u64>), NoMemory> {
     let mut keys = three(alloc)?;
     if let Some(Value::Native(number)) = keys.get_mut(b"a") {
@@ -107,12 +120,13 @@ fn order(alloc: Global) -> Result<Vec<Option<u8>>, NoMemory> {
     Ok(names)
 }
 
-// Each call on its way to an answer: the least deadline is due first, and then the least name; a key that is
-// renamed takes its deadline along, and one that is put has none.
+// Each call on its way to an answer: the least deadline is due first, and then the least name; a
+// key that is renamed takes its deadline along, and one that is put has none.
 #[test]
 fn ample(rt: HostRuntime) -> Result<(), Fail> {
     let alloc = rt.alloc();
     assert!(rt; dues(alloc)? == [None, Some(b'c'), Some(b'c'), Some(b'a')]);
+    assert!(rt; redated(alloc)? == [Some(b'a'), Some(b'c'), Some(b'b')]);
     assert!(rt; moved(alloc)? == [None, Some(50), None, Some(3)]);
     assert!(rt; front(alloc)? == (Some(b'a'), Some(7), Some(100)));
     assert!(rt; order(alloc)?.as_slice() == [Some(b'a'), Some(b'b'), Some(b'c')].as_slice());

@@ -7,6 +7,8 @@ use Rattle.key_store.specs.contracts.stored.Stored.{the_row as stored_row}
 use Rattle.key_store.specs.contracts.table.Table.{the_row as table_row}
 
 -- the table ends with what was left under the key, and as it was where the key is not there
-abbrev pub LendsEntry : (N : RattleType) → MutBor ((table_row N).Denot) → List ℕ → Option (MutBor ((stored_row N).Denot)) → Fml
+abbrev pub LendsEntry : (N : RattleType) → MutBor ((table_row N).Denot) → List ℕ
+    → Option (MutBor ((stored_row N).Denot)) → Fml
 LendsEntry N table key lent =
-    LendsSo (table_row N) (stored_row N) table lent (λ end left. OnSome lent (end ≡ with_entry table.now key left)) (λ end. end ≡ table.now)
+    LendsSo (table_row N) (stored_row N) table lent
+    (λ end left. OnSome lent (end ≡ with_entry table.now key left)) (λ end. end ≡ table.now)

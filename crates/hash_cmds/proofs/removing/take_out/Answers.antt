@@ -1,7 +1,6 @@
 -- Serves clause count of take_out.
-use Rattle.std.proofs.Common.{◌≡◌, ◌+◌, ◌-◌, ◌≤◌, ◌<◌, ◌^◌, length, take, pos, ap, sym, ◌∙◌, arith, length-take, List, ℕ, FitsSigned, w64, to_z}
+use Rattle.std.proofs.Common.{◌-◌, ◌<◌, ◌^◌, length, take, pos, ap, ◌∙◌, arith, length-take, List, ℕ, w64}
 use Rattle.std.proofs.Math.Facts.{to_z_pos}
-use Rattle.hash_cmds.specs.Removing.{without_fields}
 use Rattle.hash_cmds.proofs.Lengths.{length-without_fields}
 use Rattle.hash_cmds.proofs.removing.take_out.Goals as goal
 

@@ -1,5 +1,5 @@
 -- Serves clause does of run_absent.
-use Rattle.std.proofs.Common.{◌≡◌, List, [], Some, None, subst}
+use Rattle.std.proofs.Common.{List, Some, None, subst}
 use Rattle.core_types.specs.Done.{Does}
 use Rattle.core_types.specs.declared.field.Field.{Field}
 use Rattle.hash_cmds.specs.Rows.{row}

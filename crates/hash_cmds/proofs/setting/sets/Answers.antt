@@ -1,5 +1,5 @@
 -- Serves clauses more and few of sets.
-use Rattle.std.proofs.Common.{◌≡◌, ◌+◌, ◌≤◌, ◌<◌, length, ap, arith}
+use Rattle.std.proofs.Common.{length, ap, arith}
 use Rattle.hash_cmds.proofs.Lengths.{length-with_fields}
 use Rattle.hash_cmds.proofs.setting.sets.Goals as goal
 

@@ -1,5 +1,5 @@
 -- Serves clause short of pairs.
-use Rattle.std.proofs.Common.{◌≡◌, ◌∙◌, ◌++◌, length, ap, sym, arith, length-append}
+use Rattle.std.proofs.Common.{length, ap, arith, length-append}
 use Rattle.hash_cmds.specs.Words.{pairs}
 use Rattle.hash_cmds.proofs.Lengths.{length-pairs}
 use Rattle.hash_cmds.proofs.words.pairs.Goals as goal

@@ -6,8 +6,6 @@ use Rattle.core_types.specs.Keys.{key_count}
 use Rattle.key_store.proofs.Trees.{len-read}
 use Rattle.key_store.proofs.table.Table.len.Goals as goal
 
-pub returns : goal.returns
-returns g c =
-    record {
-      count = c.len.ensures.len ∙ sym (len-read nat_list_cmp_total exact_bytes (λ k. k.items) c.self.inside.entries.entries c.len.ensures.ordered) ∙ ap key_count c.self.view_is;
-    }
+pub returns-clause-count : goal.returns-clause-count
+returns-clause-count g c =
+    c.len.ensures.len ∙ sym (len-read nat_list_cmp_total exact_bytes (λ k. k.items) c.self.inside.entries.entries c.len.ensures.ordered) ∙ ap key_count c.self.view_is

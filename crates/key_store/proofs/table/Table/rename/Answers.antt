@@ -12,12 +12,12 @@ unreachable-requires g c =
 
 pub fill-requires : goal.fill-requires
 fill-requires g c =
-    ap (entry_at c.remove.new.self) (c.in_ok-name.ensures.items ∙ c.deref.ensures.value)
+    ap (entry_at c.remove.new.self) (c.in_ok-new_name.ensures.items ∙ c.deref.ensures.value)
     ∙ held_there c.args.self.now c.hold.new.self c.remove.new.self c.args.from.now c.args.to.items c.requires.apart c.in_ok-before.ensures.ok c.remove.ensures.removed
 
 pub returns-clause-ok : goal.returns-clause-ok
 returns-clause-ok g c =
     c.fill.ensures.filled
-    ∙ ap (λ key. with_entry c.remove.new.self key c.in-Some.stored) (c.in_ok-name.ensures.items ∙ c.deref.ensures.value)
+    ∙ ap (λ key. with_entry c.remove.new.self key c.in-Some.stored) (c.in_ok-new_name.ensures.items ∙ c.deref.ensures.value)
     ∙ moved c.args.self.now c.hold.new.self c.remove.new.self c.args.from.now c.args.to.items c.in-Some.stored c.requires.apart c.in_ok-before.ensures.ok c.remove.ensures.removed
     c.in-Some.ensures.entry
