@@ -1,6 +1,5 @@
 -- Serves the clauses `crash`: what a crash leaves while a log is opened restarts as it might have at the entry.
-use Rattle.std.proofs.Common.{◌≡◌, ◌⊎◌, ℕ, ◌≤◌, List, [], take, length, Option, Some, None, IfSome, refl, sym, ap, subst, ◌∙◌, inl, inr, arith}
-use Rattle.std.specs.Prelude.{◌↔◌}
+use Rattle.std.proofs.Common.{◌≡◌, ℕ, ◌≤◌, List, [], take, Option, Some, None, IfSome, refl, sym, ap, subst, ◌∙◌, inl, inr}
 use Rattle.std.specs.Option.{option_map}
 use Rattle.core_types.specs.Keys.{Keys, no_keys}
 use Rattle.disk_model.specs.declared.file_name.FileName.{FileName}
@@ -10,11 +9,12 @@ use Rattle.disk_model.specs.Disk.{Disk, reads}
 use Rattle.disk_model.specs.Images.{Leaves}
 use Rattle.disk_model.specs.Past.{Call, Past, done, disk_now, files_now}
 use Rattle.disk_model.specs.Told.{Told, files_told, disk_told}
-use Rattle.disk_model.specs.Runs.{MayLeave}
+use Rattle.disk_model.specs.Runs.{MayLeave, LeavesOnly}
 use Rattle.disk_model.specs.Crash.{IsChangedImage}
 use Rattle.disk_model.proofs.Images.{reads_leaves}
 use Rattle.disk_model.proofs.Past.{now_sound}
 use Rattle.disk_model.proofs.Added.{cut_adds, create_adds}
+use Rattle.disk_model.proofs.Moments as moments
 use Rattle.effect_log.specs.Replay.{Meaning, Holds}
 use Rattle.effect_log.proofs.Shorter.{Holds-cut}
 use Rattle.restart.specs.Restart.{Opening, OpensAs, Opens, Restarts, RestartsSame, RestartsAsLeft}
@@ -122,6 +122,19 @@ pub cut_as_left : (replay : Meaning) (bytes : List ℕ) (kept : ℕ) (keys : Key
 cut_as_left replay bytes kept keys holds old there image may =
     changed_left (RestartsAsLeft replay) (done (Call.Cut Log kept)) old.past image
     (λ one is leaves. cut_left replay bytes kept keys holds one image (log_now old.past one (λ known. known.log ≡ Some bytes) there is) leaves) may
+
+-- Two runs that leave what restarts as before each are one.
+pub crash_further : (replay : Meaning) (a b c : Told)
+    → LeavesOnly a b (RestartsAsLeft replay (disk_told a))
+    → LeavesOnly b c (RestartsAsLeft replay (disk_told b))
+    → LeavesOnly a c (RestartsAsLeft replay (disk_told a))
+crash_further replay a b c first second =
+    let P : Files → Type 0 = RestartsAsLeft replay (disk_told a) in
+    let Q : Files → Type 0 = RestartsAsLeft replay (disk_told b) in
+    let before : (files : Files) → MayLeave (disk_told b) files → P files = moments.now a b P first in
+    let later : (image : Files) → Q image → P image =
+    λ image r. as_left_on replay (disk_told a) (disk_told b) image before r in
+    moments.further a b c P first (moments.weaker b c Q P second later)
 
 pub holds_none : (replay : Meaning) → Holds replay [] no_keys 0
 holds_none replay = record { units = []; holds = record { each = tt; rest = []; whole = refl; place = refl; torn = inl refl }; makes = refl }

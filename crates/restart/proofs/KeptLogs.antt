@@ -1,16 +1,21 @@
 -- Serves the clauses of `make_safe` and of the parts of it: what is synced, and how the files are left.
 use Rattle.std.specs.Prelude.{⊤}
-use Rattle.std.proofs.Common.{◌≡◌, ◌⊎◌, ℕ, List, [], take, length, Option, Some, None, IfSome, OnOk, OnErr, Result, Ok, Err, refl, sym, ap, subst, ◌∙◌, inl, inr}
+use Rattle.std.proofs.Common.{◌≡◌, ◌⊎◌, ℕ, List, [], take, Option, Some, None, IfSome, OnOk, OnErr, Result, Ok, Err, refl, ap, ◌∙◌, inl, inr}
 use Rattle.std.specs.Option.{option_map}
 use Rattle.disk_model.specs.declared.file_name.FileName.TheVariants.{Log}
 use Rattle.disk_model.specs.Files.{Files, file, with_file, with_cut, Become, Stay}
 use Rattle.disk_model.specs.Disk.{Disk, reads}
-use Rattle.disk_model.specs.Past.{Call, Outcome, Past, disk_now, files_now, with_call}
-use Rattle.disk_model.specs.Told.{Told, Now, Goes, Fails, Was, files_told, disk_told}
+use Rattle.disk_model.specs.Past.{Call, Outcome, Past, disk_now, files_now}
+use Rattle.disk_model.specs.Told.{Told, Now, Goes, Fails, files_told, disk_told}
+use Rattle.disk_model.specs.Runs.{MayLeave}
 use Rattle.disk_model.specs.Safe.{IsSynced, IsSafe}
 use Rattle.disk_model.proofs.Failures.{cut_failed, was_made}
+use Rattle.disk_model.proofs.Moments as moments
 use Rattle.disk_model.proofs.Moments.{now_step}
 use Rattle.disk_model.proofs.Safe.{synced_there, created_there, names_safe}
+use Rattle.restart.specs.Restart.{RestartsAsLeft}
+use Rattle.restart.specs.inner.Keeping.{LeavesNothingNew, RestartsAsAtFirst}
+use Rattle.restart.proofs.Crash.{as_it_is, crash_further}
 
 pub always_on_err : {T E : Type 0} (r : Result T E) (P : Type 0) → P → OnErr r P
 always_on_err (Ok x) P p = tt
@@ -30,13 +35,12 @@ pub synced_told : (bytes : List ℕ) (old new : Told) → Goes (Call.Sync Log) O
 synced_told bytes old new goes there =
     now_step (λ disk. file Log (reads disk) ≡ Some bytes) (IsSynced Log bytes) (Call.Sync Log) Outcome.Done old new goes (λ past is. synced_there Log bytes (disk_now past) is) (disk_there bytes old there)
 
-pub synced_ok : {T E : Type 0} (result : Result T E) (bytes : List ℕ) (old new : Option Past) → OnOk result (new ≡ option_map (with_call (Call.Sync Log) Outcome.Done) old) → IfSome (option_map files_now old) (λ known. known.log ≡ Some bytes)
-    → OnOk result (IfSome (option_map disk_now new) (IsSynced Log bytes))
-synced_ok (Ok x) bytes old new goes there = synced_told bytes (record { past = old; faults = 0 }) (record { past = new; faults = 0 }) goes there
+pub synced_ok : {T E : Type 0} (result : Result T E) (bytes : List ℕ) (old new : Told)
+    → OnOk result (Goes (Call.Sync Log) Outcome.Done old new)
+    → IfSome (files_told old) (λ known. known.log ≡ Some bytes)
+    → OnOk result (Now (IsSynced Log bytes) new)
+synced_ok (Ok x) bytes old new goes there = synced_told bytes old new goes there
 synced_ok (Err e) bytes old new goes there = tt
-
-pub sync_was : {T E : Type 0} (result : Result T E) (old new : Told) → OnOk result (Goes (Call.Sync Log) Outcome.Done old new) → OnErr result (Fails (Call.Sync Log) old new) → Was (Call.Sync Log) old new
-sync_was result old new goes fails = was_made result (Call.Sync Log) old new goes fails
 
 anything : (o : Option Disk) → IfSome o (λ disk. ⊤)
 anything None = tt
@@ -64,7 +68,43 @@ cut_or_not bytes kept old new there fails = elim (cut_failed Log kept old new fa
   | inr become ↦ inr (cut_log bytes kept (files_told old) (files_told new) there become)
 ]
 
--- a log that was cut has these bytes
-pub has_cut : (bytes : List ℕ) (old new : Option Files) → Become (with_file Log bytes) old new → IfSome new (λ known. known.log ≡ Some bytes)
-has_cut bytes None new become = subst (λ (o : Option Files). IfSome o (λ known. known.log ≡ Some bytes)) (sym become) tt
-has_cut bytes (Some files) new become = subst (λ (o : Option Files). IfSome o (λ known. known.log ≡ Some bytes)) (sym become) refl
+-- a sync of the log leaves nothing new
+pub sync_adds_nothing : {T E : Type 0} (result : Result T E) (old new : Told)
+    → OnOk result (Goes (Call.Sync Log) Outcome.Done old new)
+    → OnErr result (Fails (Call.Sync Log) old new) → LeavesNothingNew old new
+sync_adds_nothing result old new goes fails =
+    let was = was_made result (Call.Sync Log) old new goes fails in
+    moments.by_sync Log old new (MayLeave (disk_told old)) was (λ image may. may)
+
+module _ (bytes : List ℕ) (kept : ℕ) where
+  -- where nothing new is left, it restarts as at first
+  pub nothing_new : (old new : Told) → LeavesNothingNew old new
+      → RestartsAsAtFirst bytes kept old new
+  nothing_new old new only = record {
+    each = λ replay keys holds.
+        let P = RestartsAsLeft replay (disk_told old) in
+        moments.weaker old new (MayLeave (disk_told old)) P only
+        (λ image may. as_it_is replay (disk_told old) image may);
+  }
+
+  -- where nothing is done, nothing new is left
+  pub no_crash : (told : Told) → RestartsAsAtFirst bytes kept told told
+  no_crash told =
+      let only = moments.no_call told told (MayLeave (disk_told told)) refl (λ image may. may) in
+      nothing_new told told only
+
+  further : (a b c : Told) → RestartsAsAtFirst bytes kept a b → RestartsAsAtFirst bytes kept b c
+      → RestartsAsAtFirst bytes kept a c
+  further a b c first second = record {
+    each = λ replay keys holds.
+        crash_further replay a b c (first.each replay keys holds) (second.each replay keys holds);
+  }
+
+  -- what leaves nothing new may come first, or last
+  pub after_nothing : (a b c : Told) → LeavesNothingNew a b → RestartsAsAtFirst bytes kept b c
+      → RestartsAsAtFirst bytes kept a c
+  after_nothing a b c only then = further a b c (nothing_new a b only) then
+
+  pub before_nothing : (a b c : Told) → LeavesNothingNew b c → RestartsAsAtFirst bytes kept a b
+      → RestartsAsAtFirst bytes kept a c
+  before_nothing a b c only first = further a b c first (nothing_new b c only)

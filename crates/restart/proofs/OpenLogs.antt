@@ -1,18 +1,17 @@
 -- Serves the clauses `opened` and `stop` of `open_log`, and `found` of `look`.
-use Rattle.std.proofs.Common.{◌≡◌, ◌⊎◌, ◌≤◌, false, ℕ, List, [], take, length, Option, Some, None, IfSome, refl, sym, ap, subst, ◌∙◌, inl, inr, arith}
+use Rattle.std.proofs.Common.{◌≡◌, ◌⊎◌, ◌≤◌, false, ℕ, List, [], take, length, Option, Some, None, IfSome, refl, sym, subst, ◌∙◌, inl, inr, arith}
 use Rattle.std.proofs.lemmas.List.{length-take-le}
 use Rattle.core_types.specs.Keys.{Keys, no_keys}
 use Rattle.disk_model.specs.declared.file_name.FileName.TheVariants.{Log}
 use Rattle.disk_model.specs.Files.{Files, with_file, Become, Stay}
 use Rattle.disk_model.specs.Disk.{Disk}
 use Rattle.disk_model.specs.Told.{Told, Now, files_told, disk_told}
-use Rattle.disk_model.specs.Runs.{MayLeave, LeavesOnly, SameDisk}
+use Rattle.disk_model.specs.Runs.{LeavesOnly, SameDisk}
 use Rattle.disk_model.specs.Safe.{IsSafe}
 use Rattle.disk_model.proofs.Moments as moments
 use Rattle.disk_model.proofs.Safe.{safe_one}
 use Rattle.effect_log.specs.Replay.{Meaning, Holds}
 use Rattle.effect_log.proofs.GoesOn.{Holds-kept}
-use Rattle.restart.specs.declared.opening.Opened.{Opened}
 use Rattle.restart.specs.declared.opening.OpenStop.{OpenStop}
 use Rattle.restart.specs.declared.opening.OpenStop.TheVariants as stops
 use Rattle.restart.specs.declared.finding.Found.{Found}
@@ -21,7 +20,7 @@ use Rattle.restart.specs.Restart.{Opening, Opens, Restarts, RestartsAsLeft}
 use Rattle.restart.specs.OpenLog.{AreLengths, Finds, HasOpened, IsUnopened, IsPartlyOpen, OpenStops}
 use Rattle.restart.specs.inner.Finding.{IsThereAs, StandsFor, log_of, opened_of}
 use Rattle.restart.proofs.SameDisk.{same_files}
-use Rattle.restart.proofs.Crash.{as_it_is, as_left_on, log_restarts, holds_none}
+use Rattle.restart.proofs.Crash.{as_it_is, log_restarts, holds_none}
 
 -- what is opened of what was found
 abbrev opening_of : Found → Keys → Opening
@@ -113,11 +112,6 @@ unopened_stops replay stops.NotBuilt old new is same = (is, same)
 unopened_stops replay stops.Dir old new is same = inl (same_files old new same)
 unopened_stops replay (stops.Stopped why) old new is same = same
 
--- what a crash leaves while it reads, and then while the log is made safe
+-- what a crash leaves while it reads
 pub crash_reading : (replay : Meaning) (old new : Told) → SameDisk old new → LeavesOnly old new (RestartsAsLeft replay (disk_told old))
 crash_reading replay old new same = moments.same old new (RestartsAsLeft replay (disk_told old)) same (λ image may. as_it_is replay (disk_told old) image may)
-
-pub crash_further : (replay : Meaning) (a b c : Told) → LeavesOnly a b (RestartsAsLeft replay (disk_told a)) → LeavesOnly b c (RestartsAsLeft replay (disk_told b)) → LeavesOnly a c (RestartsAsLeft replay (disk_told a))
-crash_further replay a b c first second =
-    let P : Files → Type 0 = RestartsAsLeft replay (disk_told a) in
-    moments.further a b c P first (moments.weaker b c (RestartsAsLeft replay (disk_told b)) P second (λ image r. as_left_on replay (disk_told a) (disk_told b) image (λ files may. moments.now a b P first files may) r))

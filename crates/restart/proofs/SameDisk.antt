@@ -1,10 +1,10 @@
 -- Serves the clauses `same` of `find` and `look`, and `stop` of `open_log`: reads leave the same disk.
-use Rattle.std.proofs.Common.{◌≡◌, ℕ, List, [], ◌∷◌, ◌++◌, Option, Some, None, refl, sym, ap, ◌∙◌, append_assoc, append-nil}
+use Rattle.std.proofs.Common.{◌≡◌, List, [], ◌∷◌, ◌++◌, Option, Some, None, refl, sym, ap, ◌∙◌, append-nil}
 use Rattle.std.specs.List.{AllByRecursion}
 use Rattle.std.specs.Option.{option_map}
 use Rattle.disk_model.specs.declared.file_name.FileName.{FileName}
 use Rattle.disk_model.specs.Files.{Stay}
-use Rattle.disk_model.specs.Disk.{Disk, reads}
+use Rattle.disk_model.specs.Disk.{reads}
 use Rattle.disk_model.specs.Past.{Call, Outcome, Made, Past, disk_now, files_now, with_call, with_calls}
 use Rattle.disk_model.specs.Told.{Told, Was, files_told, disk_told}
 use Rattle.disk_model.specs.Runs.{SameDisk}

@@ -1,5 +1,5 @@
 -- What opening a log finds and leaves.
-use Rattle.std.specs.Prelude.{◌≡◌, ◌⊎◌, ◌≤◌, ⊤, false, ℕ, length, Option, None, IfSome}
+use Rattle.std.specs.Prelude.{◌≡◌, ◌⊎◌, ◌≤◌, ⊤, false, length, Option, None, IfSome}
 use Rattle.core_types.specs.Keys.{Keys}
 use Rattle.core_types.specs.declared.stop.Stop.TheVariants as stop
 use Rattle.disk_model.specs.declared.file_name.FileName.TheVariants.{Log}
@@ -22,17 +22,19 @@ pub record AreLengths (files : Option Files) (opened : Opened) (opening : Openin
   pub length_is : IfSome files (λ known. IfSome known.log (λ bytes. opened.length ≡ length bytes))
   pub new : IfSome files (λ known. known.log ≡ None → opened.length ≡ 0)
 
--- The files stand for these keys, and so much was found of them.
-pub record Finds (replay : Meaning) (files : Option Files) (keys : Keys) (opened : Opened) : Type 0 where
+-- The files stand for these keys, and this was found of them.
+pub record Finds (replay : Meaning) (files : Option Files) (keys : Keys) (opened : Opened)
+    : Type 0 where
   pub opening : Opening
   pub opens : IfSome files (λ known. Opens replay known opening)
   pub keys_are : opening.keys ≡ keys
   pub lengths : AreLengths files opened opening
   pub imported : opened.imported ≡ false
 
--- The log is opened: the directory stood for these keys, the log has its bytes without a torn unit, and no other file changed.
--- The log is safe, and whatever a crash now leaves restarts to the keys.
-pub record HasOpened (replay : Meaning) (old new : Told) (keys : Keys) (opened : Opened) : Type 0 where
+-- The log is opened: the directory stood for these keys, the log has its bytes without a torn unit,
+-- and no other file changed. The log is safe, and whatever a crash now leaves restarts to the keys.
+pub record HasOpened (replay : Meaning) (old new : Told) (keys : Keys) (opened : Opened)
+    : Type 0 where
   pub finds : Finds replay (files_told old) keys opened
   pub log : Become (with_file Log finds.opening.log) (files_told old) (files_told new)
   pub safe : Now (IsSafe Log finds.opening.log) new
@@ -40,7 +42,8 @@ pub record HasOpened (replay : Meaning) (old new : Told) (keys : Keys) (opened :
 
 -- What stands in files that are not opened, by why they are not.
 abbrev pub IsUnopened : Meaning → OpenStop → Option Files → Type 0
-IsUnopened replay (stops.LogRefused file at why) files = (file ≡ Log) × IfSome files (λ known. IsRefusedLog replay known why at)
+IsUnopened replay (stops.LogRefused file at why) files =
+    (file ≡ Log) × IfSome files (λ known. IsRefusedLog replay known why at)
 IsUnopened replay stops.NotBuilt files = IfSome files HasDumpAlone
 IsUnopened replay stops.Dir files = ⊤
 IsUnopened replay (stops.Stopped why) files = ⊤
@@ -56,8 +59,10 @@ IsPartlyOpen replay old new = Stay old new ⊎ ((opening : Opening) × IsOpen re
 
 -- Why a log was not opened, and how that left the directory.
 abbrev pub OpenStops : Meaning → OpenStop → Told → Told → Type 0
-OpenStops replay (stops.LogRefused file at why) old new = IsUnopened replay (stops.LogRefused file at why) (files_told old) × SameDisk old new
-OpenStops replay stops.NotBuilt old new = IsUnopened replay stops.NotBuilt (files_told old) × SameDisk old new
+OpenStops replay (stops.LogRefused file at why) old new =
+    IsUnopened replay (stops.LogRefused file at why) (files_told old) × SameDisk old new
+OpenStops replay stops.NotBuilt old new =
+    IsUnopened replay stops.NotBuilt (files_told old) × SameDisk old new
 OpenStops replay stops.Dir old new = IsPartlyOpen replay (files_told old) (files_told new)
 OpenStops replay (stops.Stopped why) old new = SameDisk old new
 

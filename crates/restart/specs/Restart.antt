@@ -12,9 +12,11 @@ pub record Opening : Type 0 where
   pub keys : Keys
   pub log : List ℕ
 
--- what a log and a dump are opened as. Without both there are no keys, and a new log. A dump alone is not opened yet.
+-- what a log and a dump are opened as. Without both there are no keys, and a new log. A dump alone
+-- is not opened yet.
 abbrev pub OpensAs : Meaning → Option (List ℕ) → Option (List ℕ) → Opening → Type 0
-OpensAs replay (Some bytes) dump opening = (kept : ℕ) × Holds replay bytes opening.keys kept × (opening.log ≡ take kept bytes)
+OpensAs replay (Some bytes) dump opening =
+    (kept : ℕ) × Holds replay bytes opening.keys kept × (opening.log ≡ take kept bytes)
 OpensAs replay None None opening = (opening.keys ≡ no_keys) × (opening.log ≡ [])
 OpensAs replay None (Some dump) opening = ⊥
 
@@ -40,9 +42,11 @@ pub record HasDumpAlone (files : Files) : Type 0 where
 
 -- Both restart to the same keys, or neither does.
 abbrev pub RestartsSame : Meaning → Files → Files → Type 0
-RestartsSame replay files others = (keys : Keys) → Restarts replay files keys ↔ Restarts replay others keys
+RestartsSame replay files others =
+    (keys : Keys) → Restarts replay files keys ↔ Restarts replay others keys
 
--- The files restart as some do that a crash of this disk may leave. The files that the disk reads as are among these.
+-- The files restart as some do that a crash of this disk may leave. The files that the disk reads
+-- as are among these.
 pub record RestartsAsLeft (replay : Meaning) (disk : Option Disk) (files : Files) : Type 0 where
   pub left : Files
   pub may : MayLeave disk left

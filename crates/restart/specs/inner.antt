@@ -2,3 +2,4 @@
 pub mod Replaying
 pub mod Progress
 pub mod Finding
+pub mod Keeping

@@ -20,7 +20,7 @@ use std::alloc::Global;
 /// What a directory is opened from.
 #[derive(Debug, Drop)]
 pub(crate) enum Found {
-    /// A log of these bytes, of which the first, so many, are whole units.
+    /// A log of these bytes, and how many of them are whole units.
     Log(Blob, u64),
     /// Neither a log nor a dump.
     Nothing,
@@ -46,7 +46,8 @@ impl Found {
     }
 }
 
-/// Reads the log, and replays it. Where there is none, looks whether a dump is there. Changes nothing.
+/// Reads the log, and replays it. Where there is none, looks whether a dump is there. Changes
+/// nothing.
 pub(crate) fn find<D: Dir, R: Replayer>(
     alloc: Global,
     dir: &mut D,
@@ -57,7 +58,8 @@ pub(crate) fn find<D: Dir, R: Replayer>(
     ensures keys { IfOk result (λ found. StandsFor R.meaning found (R.keys replayer.new)) }
     ensures stop { IfErr result (λ stop. IsUnopened R.meaning stop (files_told (D.told dir.old))) }
     ensures same { SameDisk (D.told dir.old) (D.told dir.new) }
-    ensures spent { result ≡ Err (stops.Stopped stop.NumbersSpent) → R.is_spent replayer.new ≡ true }
+    ensures spent { result ≡ Err (stops.Stopped stop.NumbersSpent)
+        → R.is_spent replayer.new ≡ true }
     ensures cause { HasCauseFor stops.Dir (D.told dir.old).faults (D.told dir.new).faults result }
 {
     if let Some(bytes) = dir.read_all(alloc, FileName::Log)? {

@@ -75,13 +75,14 @@ impl From<ReadAllStop> for OpenStop {
     }
 }
 
-/// Opens the log of a directory: reads it whole, replays its units into the replayer, makes what was found
-/// safe from a crash, cuts off a torn unit at its end, and makes the names safe. Where there is no log it
-/// begins one.
+/// Opens the log of a directory: reads it whole, replays its units into the replayer, makes what
+/// was found safe from a crash, cuts off a torn unit at its end, and makes the names safe. Where
+/// there is no log it begins one.
 ///
-/// Whenever a crash comes, what it leaves restarts to the keys that the directory stood for at the entry, or
-/// as what a crash at the entry might have left. A log that is refused leaves the directory as it was. After
-/// an `Err` the replayer holds what the first effects made, and is to be given up.
+/// Whenever a crash comes, what it leaves restarts to the keys that the directory stood for at the
+/// entry, or as what a crash at the entry might have left. A log that is refused leaves the
+/// directory as it was. After an `Err` the replayer holds what the first effects made, and is to be
+/// given up.
 pub fn open_log<D: Dir, R: Replayer>(
     alloc: Global,
     dir: &mut D,
@@ -90,10 +91,12 @@ pub fn open_log<D: Dir, R: Replayer>(
     requires none { R.keys replayer.old ≡ no_keys }
     ensures opened { IfOk result (λ opened.
         HasOpened R.meaning (D.told dir.old) (D.told dir.new) (R.keys replayer.new) opened) }
-    ensures stop { IfErr result (λ stop. OpenStops R.meaning stop (D.told dir.old) (D.told dir.new)) }
+    ensures stop { IfErr result (λ stop.
+        OpenStops R.meaning stop (D.told dir.old) (D.told dir.new)) }
     ensures crash { LeavesOnly (D.told dir.old) (D.told dir.new)
         (RestartsAsLeft R.meaning (disk_told (D.told dir.old))) }
-    ensures spent { result ≡ Err (stops.Stopped stop.NumbersSpent) → R.is_spent replayer.new ≡ true }
+    ensures spent { result ≡ Err (stops.Stopped stop.NumbersSpent)
+        → R.is_spent replayer.new ≡ true }
     ensures cause { HasCauseFor stops.Dir (D.told dir.old).faults (D.told dir.new).faults result }
 {
     let found = find(alloc, dir, replayer)?;
@@ -101,8 +104,8 @@ pub fn open_log<D: Dir, R: Replayer>(
     Ok(found.opened())
 }
 
-/// Answers what `open_log` would, and changes nothing of the directory: how long its log is, how much of it is
-/// whole units, and into the replayer the keys; or why it is not opened.
+/// Answers what `open_log` would, and changes nothing of the directory: how long its log is, how
+/// much of it is whole units, and into the replayer the keys; or why it is not opened.
 pub fn look<D: Dir, R: Replayer>(
     alloc: Global,
     dir: &mut D,
@@ -113,7 +116,8 @@ pub fn look<D: Dir, R: Replayer>(
         Finds R.meaning (files_told (D.told dir.old)) (R.keys replayer.new) opened) }
     ensures stop { IfErr result (λ stop. IsUnopened R.meaning stop (files_told (D.told dir.old))) }
     ensures same { SameDisk (D.told dir.old) (D.told dir.new) }
-    ensures spent { result ≡ Err (stops.Stopped stop.NumbersSpent) → R.is_spent replayer.new ≡ true }
+    ensures spent { result ≡ Err (stops.Stopped stop.NumbersSpent)
+        → R.is_spent replayer.new ≡ true }
     ensures cause { HasCauseFor stops.Dir (D.told dir.old).faults (D.told dir.new).faults result }
 {
     let found = find(alloc, dir, replayer)?;

@@ -13,8 +13,8 @@ use disk_model::FileName;
 use effect_log::{LogReader, NextUnit, ReplayStop, Replayer};
 use std::alloc::Global;
 
-/// Replays the units of a log of these bytes, and says how many of the bytes they take. Behind them there is
-/// nothing or a torn unit.
+/// Replays the units of a log of these bytes, and says how many of the bytes they take. Behind them
+/// there is nothing or a torn unit.
 pub(crate) fn replay_log<R: Replayer>(
     alloc: Global,
     bytes: &[u8],
@@ -24,7 +24,8 @@ pub(crate) fn replay_log<R: Replayer>(
     ensures holds { IfOk result (λ kept. Holds R.meaning bytes.now (R.keys replayer.new) kept) }
     ensures within { IfOk result (λ kept. kept ≤ length bytes.now) }
     ensures stop { IfErr result (λ stop. BytesStop R.meaning stop bytes.now) }
-    ensures spent { result ≡ Err (stops.Stopped stop.NumbersSpent) → R.is_spent replayer.new ≡ true }
+    ensures spent { result ≡ Err (stops.Stopped stop.NumbersSpent)
+        → R.is_spent replayer.new ≡ true }
 {
     let mut reader = LogReader::new(alloc, bytes, 0);
     loop {
@@ -52,9 +53,12 @@ fn replay_unit<R: Replayer>(
 ) -> Result<(), OpenStop>
     requires each { AreReplayable effects.now }
     requires starts { length reader.now.starts ≡ length effects.now }
-    ensures ok { OnOk result (replayed R.meaning (R.keys replayer.old) effects.now ≡ Ok (R.keys replayer.new)) }
-    ensures stop { IfErr result (λ stop. UnitStop R.meaning stop (R.keys replayer.old) effects.now reader.now.starts) }
-    ensures spent { result ≡ Err (stops.Stopped stop.NumbersSpent) → R.is_spent replayer.new ≡ true }
+    ensures ok { OnOk result
+        (replayed R.meaning (R.keys replayer.old) effects.now ≡ Ok (R.keys replayer.new)) }
+    ensures stop { IfErr result (λ stop.
+        UnitStop R.meaning stop (R.keys replayer.old) effects.now reader.now.starts) }
+    ensures spent { result ≡ Err (stops.Stopped stop.NumbersSpent)
+        → R.is_spent replayer.new ≡ true }
 {
     for (n, effect) in effects.as_slice().iter().enumerate() {
         if let Err(stop) = replayer.replay(alloc, effect) {
@@ -64,7 +68,7 @@ fn replay_unit<R: Replayer>(
     Ok(())
 }
 
-// What an effect at this offset that was not replayed comes to.
+// The stop that an effect at this offset leads to, where it was not replayed.
 fn stopped(stop: ReplayStop, offset: u64) -> OpenStop
     ensures { result ≡ stopped_by stop offset }
 {

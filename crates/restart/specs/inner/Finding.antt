@@ -9,7 +9,8 @@ use Rattle.restart.specs.declared.opening.Opened.{Opened}
 
 -- a log of these bytes, or neither a log nor a dump
 abbrev pub IsThereAs : Found → Option Files → Type 0
-IsThereAs (found.Log bytes kept) files = (kept ≤ length bytes) × IfSome files (λ known. known.log ≡ Some bytes)
+IsThereAs (found.Log bytes kept) files =
+    (kept ≤ length bytes) × IfSome files (λ known. known.log ≡ Some bytes)
 IsThereAs found.Nothing files = IfSome files (λ known. (known.log ≡ None) × (known.dump ≡ None))
 
 -- it stands for these keys

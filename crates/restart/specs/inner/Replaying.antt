@@ -1,4 +1,4 @@
--- What replaying the effects of one unit comes to.
+-- What stands where the effects of a unit, or of a log, were not all replayed.
 use Rattle.std.specs.Prelude.{◌≡◌, ⊤, ℕ, List, take, slice_get, Some, Ok}
 use Rattle.std.specs.List.{AllByRecursion}
 use Rattle.core_types.specs.Keys.{Keys}
@@ -16,13 +16,14 @@ use Rattle.restart.specs.declared.opening.OpenStop.TheVariants as stops
 abbrev pub AreReplayable : List Effect → Type 0
 AreReplayable effects = AllByRecursion IsReplayable effects
 
--- what an effect at this offset that was not replayed comes to
+-- the stop that an effect at this offset leads to, where it was not replayed
 abbrev pub stopped_by : ReplayStop → ℕ → OpenStop
 stopped_by (replaying.Refused place why) at = stops.LogRefused Log at why
 stopped_by (replaying.Stopped stop) at = stops.Stopped stop
 
 -- an effect makes nothing of the keys that those before it made
-pub record IsRefusedIn (replay : Meaning) (keys : Keys) (effects : List Effect) (starts : List ℕ) (why : Reason) (at : ℕ) : Type 0 where
+pub record IsRefusedIn (replay : Meaning) (keys : Keys) (effects : List Effect)
+    (starts : List ℕ) (why : Reason) (at : ℕ) : Type 0 where
   pub count : ℕ
   pub effect : Effect
   pub made : Keys
@@ -33,7 +34,8 @@ pub record IsRefusedIn (replay : Meaning) (keys : Keys) (effects : List Effect) 
 
 -- Why the effects of a unit were not replayed, where they begin at these offsets.
 abbrev pub UnitStop : Meaning → OpenStop → Keys → List Effect → List ℕ → Type 0
-UnitStop replay (stops.LogRefused file at why) keys effects starts = (file ≡ Log) × IsRefusedIn replay keys effects starts why at
+UnitStop replay (stops.LogRefused file at why) keys effects starts =
+    (file ≡ Log) × IsRefusedIn replay keys effects starts why at
 UnitStop replay (stops.Stopped stop) keys effects starts = ⊤
 UnitStop replay stop keys effects starts = ⊥
 

@@ -1,5 +1,6 @@
 use Rattle.std.proofs.lemmas.Result.{err_from_is_err_and}
-use Rattle.restart.proofs.OpenLogs.{has_opened, partly, there_still, unopened_stops, crash_reading, crash_further}
+use Rattle.restart.proofs.OpenLogs.{has_opened, partly, there_still, unopened_stops, crash_reading}
+use Rattle.restart.proofs.Crash.{crash_further}
 use Rattle.restart.proofs.opening.open_log.Goals as goal
 
 pub returns-in_err-found-clause-stop : goal.returns-in_err-found-clause-stop
