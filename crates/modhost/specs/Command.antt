@@ -20,7 +20,7 @@ lower_name Get = codes "get"
 lower_name Del = codes "del"
 lower_name Quit = codes "quit"
 
--- whether a command takes so many words, its name among them
+-- whether a command takes this number of words, its name among them
 abbrev pub takes : Command → ℕ → Bool
 takes Ping words = nat_le words 2
 takes Set words = words == 3

@@ -1,5 +1,6 @@
 -- What each command does to the keys, what it replies, and the effects that do the same again.
-use Rattle.std.specs.Prelude.{ℕ, ◌+◌, ◌-◌, pos, List, [], ◌∷◌, ◌++◌, length, map, take, ◌==◌, Option, Some, None, codes, if◌then◌else◌}
+use Rattle.std.specs.Prelude.{ℕ, ◌+◌, ◌-◌, pos, List, [], ◌∷◌, ◌++◌, length, map, take, ◌==◌}
+use Rattle.std.specs.Prelude.{Option, Some, None, codes, if◌then◌else◌}
 use Rattle.core_types.specs.declared.value.Value.{Value}
 use Rattle.core_types.specs.declared.value.Value.TheVariants.{Str}
 use Rattle.core_types.specs.Keys.{Keys, Native, value_at, with_value, without, key_count}
@@ -11,7 +12,7 @@ use Rattle.modhost.specs.declared.command.Command.{Command}
 use Rattle.modhost.specs.declared.command.Command.TheVariants.{Ping, Set, Get, Del, Quit}
 use Rattle.modhost.specs.Command.{upper_name, lower_name, takes, command_named}
 
--- what one request comes to: the keys afterwards, the reply, and the effects
+-- what one request does: the keys afterwards, the reply, and the effects
 pub record Step : Type 0 where
   pub keys : Keys
   pub reply : Reply
@@ -23,7 +24,11 @@ says keys reply = record { keys = keys; reply = reply; effects = [] }
 
 -- other keys, a reply, and the command with its arguments as the effect
 abbrev pub changes : Keys → Reply → Command → List (List ℕ) → Step
-changes keys reply command arguments = record { keys = keys; reply = reply; effects = record { words = upper_name command ∷ arguments } ∷ [] }
+changes keys reply command arguments = record {
+  keys = keys;
+  reply = reply;
+  effects = record { words = upper_name command ∷ arguments } ∷ [];
+}
 
 -- an error of this text
 abbrev pub error : List ℕ → Reply
@@ -35,7 +40,8 @@ unknown_command name = error (codes "ERR unknown command '" ++ take 128 name ++ 
 
 -- `ERR wrong number of arguments for 'name' command`
 abbrev pub wrong_number : Command → Reply
-wrong_number command = error (codes "ERR wrong number of arguments for '" ++ lower_name command ++ codes "' command")
+wrong_number command =
+    error (codes "ERR wrong number of arguments for '" ++ lower_name command ++ codes "' command")
 
 -- the bytes of a string, or no value; no other value is served yet
 abbrev pub bulk_or_null : Option (Value Native) → Reply
@@ -59,18 +65,20 @@ removes keys names =
 unfoldable pub run : Command → Keys → List (List ℕ) → Step
 run Ping keys [] = says keys (Simple (codes "PONG"))
 run Ping keys (message ∷ _) = says keys (Bulk message)
-run Set keys (key ∷ value ∷ _) = changes (with_value keys key (Str value)) (Simple (codes "OK")) Set (key ∷ value ∷ [])
+run Set keys (key ∷ value ∷ _) =
+    changes (with_value keys key (Str value)) (Simple (codes "OK")) Set (key ∷ value ∷ [])
 run Set keys _ = says keys (wrong_number Set)
 run Get keys (key ∷ _) = says keys (bulk_or_null (value_at keys key))
 run Get keys [] = says keys (wrong_number Get)
 run Del keys names = removes keys names
 run Quit keys _ = says keys (Simple (codes "OK"))
 
--- the command, where it is one and takes so many words
+-- the command, where it is one and takes this number of words
 abbrev pub run_named : Option Command → Keys → List ℕ → List (List ℕ) → Step
 run_named None keys name arguments = says keys (unknown_command name)
 run_named (Some command) keys name arguments =
-    if takes command (length arguments + 1) then run command keys arguments else says keys (wrong_number command)
+    if takes command (length arguments + 1) then run command keys arguments
+    else says keys (wrong_number command)
 
 -- A request: its first word names the command.
 unfoldable pub does : Keys → List (List ℕ) → Step

@@ -1,5 +1,7 @@
--- What a run of `pipe` read, sent and logged, each part where its source, sink or directory tells it.
-use Rattle.std.specs.Prelude.{◌≡◌, ◌⊎◌, ℕ, ◌+◌, ◌^◌, ◌<◌, ◌≤◌, List, [], ◌∷◌, ◌++◌, length, take, true, false, Option, Some, IfSome}
+-- What a run of `pipe` read, sent and logged, each part where its source, sink or directory tells
+-- it.
+use Rattle.std.specs.Prelude.{◌≡◌, ◌⊎◌, ℕ, ◌+◌, ◌^◌, ◌<◌, ◌≤◌, List, [], ◌∷◌, ◌++◌, length, take}
+use Rattle.std.specs.Prelude.{true, false, Option, Some, IfSome}
 use Rattle.std.specs.List.{AllByRecursion, list_any}
 use Rattle.std.specs.Io.KnownBytes.{Appends, Keeps, Consumes, IsAtEnd}
 use Rattle.core_types.specs.declared.bad_request.BadRequest.{BadRequest}
@@ -19,7 +21,8 @@ use Rattle.modhost.specs.Does.{does}
 use Rattle.modhost.specs.Replay.{replay}
 use Rattle.modhost.specs.Run.{keys_after, replies, units}
 
--- what a source has, and what a sink and a directory held before a run and hold after it, where they tell
+-- what a source has, and what a sink and a directory held before a run and hold after it, where
+-- they tell
 pub record Outside : Type 0 where
   pub input : Option (List ℕ)
   pub left : Option (List ℕ)
@@ -49,10 +52,12 @@ pub record BeginsWith (o : Outside) (pieces : List Span) : Type 0 where
   pub each : AllByRecursion IsSpan pieces
   pub bytes : IfSome o.input (λ input. (rest : List ℕ) × (input ≡ bytes_of pieces ++ rest))
 
--- Their requests were served: their replies were sent, and the log holds their units and nothing else.
+-- Their requests were served: their replies were sent, and the log holds their units and nothing
+-- else.
 pub record Serves (o : Outside) (opening : Opening) (pieces : List Span) : Type 0 where
   pub sent : Appends o.sent_before o.sent (replies (requests_of pieces) opening.keys)
-  pub logged : Become (with_file Log (opening.log ++ units (requests_of pieces) opening.keys)) o.files_before o.files
+  pub logged : Become (with_file Log (opening.log ++ units (requests_of pieces) opening.keys))
+      o.files_before o.files
 
 -- the last request is QUIT, and no other
 pub record LastQuits (pieces : List Span) : Type 0 where
@@ -70,7 +75,7 @@ pub record ServesAll (o : Outside) (opening : Opening) : Type 0 where
   pub serves : Serves o opening pieces
   pub ended : (NoneQuits pieces × ((beyond ≡ []) × IsAtEnd o.left)) ⊎ LastQuits pieces
 
--- All were, to the end of the input, which stands so many bytes into a request.
+-- All were, to the end of the input, which stands this number of bytes into a request.
 pub record CutsOff (o : Outside) (opening : Opening) (count : ℕ) : Type 0 where
   pub pieces : List Span
   pub beyond : List ℕ
@@ -91,10 +96,13 @@ pub record Refuses (o : Outside) (opening : Opening) (kind : BadRequest) (offset
   pub going : NoneQuits pieces
   pub bad : BadAt beyond kind at
   pub place : offset ≡ length (bytes_of pieces) + at
-  pub sent : Appends o.sent_before o.sent (replies (requests_of pieces) opening.keys ++ text (bad_reply kind))
-  pub logged : Become (with_file Log (opening.log ++ units (requests_of pieces) opening.keys)) o.files_before o.files
+  pub sent : Appends o.sent_before o.sent
+      (replies (requests_of pieces) opening.keys ++ text (bad_reply kind))
+  pub logged : Become (with_file Log (opening.log ++ units (requests_of pieces) opening.keys))
+      o.files_before o.files
 
--- All that was taken was served, but for what begins no request yet: more was wanted, and the source failed.
+-- All that was taken was served, but for what begins no request yet: more was wanted, and the
+-- source failed.
 pub record StopsReading (o : Outside) (opening : Opening) : Type 0 where
   pub pieces : List Span
   pub beyond : List ℕ
@@ -132,8 +140,10 @@ pub record LogsPart (o : Outside) (opening : Opening) : Type 0 where
   pub going : NoneQuits pieces
   pub request : next.words ≡ Some words
   pub sent : Appends o.sent_before o.sent (replies (requests_of pieces) opening.keys)
-  pub logged : (count : ℕ) × Become (with_file Log (opening.log ++ units (requests_of pieces) opening.keys
-      ++ take count (unit (does (keys_after (requests_of pieces) opening.keys) words).effects))) o.files_before o.files
+  pub logged : (count : ℕ) × Become (with_file Log (opening.log
+      ++ units (requests_of pieces) opening.keys
+      ++ take count (unit (does (keys_after (requests_of pieces) opening.keys) words).effects)))
+      o.files_before o.files
   pub some : 0 < length (unit (does (keys_after (requests_of pieces) opening.keys) words).effects)
 
 -- Some were, and the last was logged, but of its reply only a front was sent.
@@ -146,7 +156,9 @@ pub record SendsPart (o : Outside) (opening : Opening) : Type 0 where
   pub request : last.words ≡ Some words
   pub sent : (count : ℕ) × Appends o.sent_before o.sent (replies (requests_of pieces) opening.keys
       ++ take count (text (does (keys_after (requests_of pieces) opening.keys) words).reply))
-  pub logged : Become (with_file Log (opening.log ++ units (requests_of pieces ++ words ∷ []) opening.keys)) o.files_before o.files
+  pub logged : Become
+      (with_file Log (opening.log ++ units (requests_of pieces ++ words ∷ []) opening.keys))
+      o.files_before o.files
 
 -- All were, up to the first bad place, of whose error only a front was sent.
 pub record SendsPartOfError (o : Outside) (opening : Opening) : Type 0 where
@@ -157,19 +169,25 @@ pub record SendsPartOfError (o : Outside) (opening : Opening) : Type 0 where
   pub takes : HasTaken o pieces beyond
   pub going : NoneQuits pieces
   pub bad : BadAt beyond kind at
-  pub sent : (count : ℕ) × Appends o.sent_before o.sent (replies (requests_of pieces) opening.keys ++ take count (text (bad_reply kind)))
-  pub logged : Become (with_file Log (opening.log ++ units (requests_of pieces) opening.keys)) o.files_before o.files
+  pub sent : (count : ℕ) × Appends o.sent_before o.sent
+      (replies (requests_of pieces) opening.keys ++ take count (text (bad_reply kind)))
+  pub logged : Become (with_file Log (opening.log ++ units (requests_of pieces) opening.keys))
+      o.files_before o.files
 
 -- The directory stood for an opening's keys, and from these it was served so.
 abbrev pub FromOpening : Outside → (Opening → Type 0) → Type 0
-FromOpening o served = (opening : Opening) × IfSome o.files_before (λ known. Opens replay known opening) × served opening
+FromOpening o served =
+    (opening : Opening)
+    × IfSome o.files_before (λ known. Opens replay known opening)
+    × served opening
 
 -- The directory stands for the keys that these requests leave of the opening's.
 abbrev pub StandsFor : Outside → Opening → List Span → Type 0
-StandsFor o opening pieces = IfSome o.files (λ known. Restarts replay known (keys_after (requests_of pieces) opening.keys))
+StandsFor o opening pieces =
+    IfSome o.files (λ known. Restarts replay known (keys_after (requests_of pieces) opening.keys))
 
--- Opening failed: nothing was read or sent, and the directory stands for what it stood for: it is as it was,
--- or its log is as an opened one.
+-- Opening failed: nothing was read or sent, and the directory stands for what it stood for: it is
+-- as it was, or its log is as an opened one.
 pub record OpensNot (o : Outside) : Type 0 where
   pub input : Keeps o.input o.left
   pub sent : Keeps o.sent_before o.sent

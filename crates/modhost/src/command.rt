@@ -72,7 +72,7 @@ impl Command {
         }
     }
 
-    /// Whether the command takes so many words, its name among them.
+    /// Whether the command takes this number of words, its name among them.
     pub fn takes(self, words: usize) -> bool
         ensures words { result ≡ takes self words }
     {

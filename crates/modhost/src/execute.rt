@@ -1,6 +1,7 @@
 //! Carries out one request.
 
-ghost use Rattle.std.specs.Prelude.{◌≡◌, ◌-◌, ◌<◌, ◌≤◌, [], ◌∷◌, length, drop, true, vec_len, IfOk, OnOk, OnErr};
+ghost use Rattle.std.specs.Prelude.{◌≡◌, ◌-◌, ◌<◌, ◌≤◌, [], ◌∷◌, length, drop, true, vec_len};
+ghost use Rattle.std.specs.Prelude.{IfOk, OnOk, OnErr};
 ghost use Rattle.std.specs.List.{AllByRecursion};
 ghost use Rattle.core_types.specs.Keys.{Keys, key_count, value_at};
 ghost use Rattle.effect_log.specs.Unit.{IsLoggable};
@@ -15,7 +16,7 @@ use crate::refusal::{unknown_command, wrong_number};
 use core_types::{Args, Blob, Effect, Effects, NoMemory, Reply};
 use std::alloc::Global;
 
-/// What a request comes to, beside the keys that it leaves.
+/// What a request does, beside the keys that it leaves.
 #[derive(Debug, Drop)]
 pub struct Outcome {
     /// What the client is answered.

@@ -8,7 +8,7 @@ ghost use Rattle.effect_log.specs.Unit.{unit};
 ghost use Rattle.disk_model.specs.Files.{with_appended, Become, IsThere};
 ghost use Rattle.disk_model.specs.Told.{files_told};
 ghost use Rattle.modhost.specs.Does.{does};
-ghost use Rattle.modhost.specs.Serving.{LogStops};
+ghost use Rattle.modhost.specs.Serving.{LogStops, files_change};
 
 use crate::execute::execute;
 use crate::key_store::KeyStore;
@@ -27,12 +27,15 @@ pub struct Host<D: Dir> {
     pub keys: KeyStore,
 }
 
-// Adds bytes to the log and makes them safe from a crash. Asks nothing of the directory where there are none.
+// Adds bytes to the log and makes them safe from a crash. Asks nothing of the directory where there
+// are none.
 fn append_synced<D: Dir>(dir: &mut D, bytes: &[u8]) -> Result<(), DirFault>
     requires { IsThere FileName.Log (files_told (D.told dir.old)) }
-    ensures ok { OnOk result (Become (with_appended FileName.Log bytes.now) (files_told (D.told dir.old)) (files_told (D.told dir.new))) }
+    ensures ok { OnOk result (Become (with_appended FileName.Log bytes.now)
+        (files_told (D.told dir.old)) (files_told (D.told dir.new))) }
     ensures err { OnErr result ((count : ℕ) ×
-        Become (with_appended FileName.Log (take count bytes.now)) (files_told (D.told dir.old)) (files_told (D.told dir.new))) }
+        Become (with_appended FileName.Log (take count bytes.now))
+        (files_told (D.told dir.old)) (files_told (D.told dir.new))) }
     ensures some { OnErr result (0 < length bytes.now) }
     ensures cause { HasCause (D.told dir.old).faults (D.told dir.new).faults result }
 {
@@ -44,17 +47,18 @@ fn append_synced<D: Dir>(dir: &mut D, bytes: &[u8]) -> Result<(), DirFault>
 }
 
 impl<D: Dir> Host<D> {
-    /// Serves a request: its unit is in the log before its reply is in `out`. After an `Err` the host is to be
-    /// given up, since its keys may be ahead of its log.
+    /// Serves a request: its unit is in the log before its reply is in `out`. After an `Err` the
+    /// host is to be given up, since its keys may be ahead of its log.
     pub fn serve(&mut self, alloc: Global, words: Args, out: &mut Blob) -> Result<(), Status>
         requires request { IsRequest words }
         requires log { IsThere FileName.Log (files_told (D.told self.old.dir)) }
         ensures keys { OnOk result (self.new.keys ≡ (does self.old.keys words).keys) }
         ensures reply { OnOk result (out.new ≡ out.old ++ text (does self.old.keys words).reply) }
-        ensures logged { OnOk result (Become (with_appended FileName.Log (unit (does self.old.keys words).effects))
+        ensures logged { OnOk result
+            (Become (with_appended FileName.Log (unit (does self.old.keys words).effects))
             (files_told (D.told self.old.dir)) (files_told (D.told self.new.dir))) }
         ensures stop { IfErr result (λ status. LogStops status (does self.old.keys words)
-            (record { old = files_told (D.told self.old.dir); new = files_told (D.told self.new.dir); faults_old = (D.told self.old.dir).faults; faults_new = (D.told self.new.dir).faults })) }
+            (files_change (D.told self.old.dir) (D.told self.new.dir))) }
         ensures kept { OnOk result ((D.told self.new.dir).faults ≡ (D.told self.old.dir).faults) }
     {
         let outcome = execute(alloc, &mut self.keys, words)?;

@@ -10,8 +10,8 @@ use std::alloc::Global;
 use std::collections::BTreeMap;
 use std::marker::Model;
 
-/// The keys, each with a string and no deadline. Every call is O(log n) in the number of keys, and a look-up or a
-/// removal takes no memory.
+/// The keys, each with a string and no deadline. Every call is O(log n) in the number of keys, and
+/// a look-up or a removal takes no memory.
 #[derive(Debug, Drop)]
 pub struct KeyStore {
     values: BTreeMap<Vec<u8>, Blob>,

@@ -1,6 +1,7 @@
 //! A source served to its end, or to QUIT.
 
-ghost use Rattle.std.specs.Prelude.{ℕ, ◌≡◌, ◌≢◌, ◌+◌, ◌^◌, ◌<◌, ◌≤◌, [], length, take, Some, IfSome, IfOk, IfErr, OnOk, OnErr};
+ghost use Rattle.std.specs.Prelude.{ℕ, ◌≡◌, ◌≢◌, ◌+◌, ◌^◌, ◌<◌, ◌≤◌, [], length, take};
+ghost use Rattle.std.specs.Prelude.{Some, IfSome, IfOk, IfErr, OnOk, OnErr};
 ghost use Rattle.std.specs.Io.KnownBytes.{Appends, Consumes, IsAtEnd};
 ghost use Rattle.core_types.specs.Causes.{HasCause};
 ghost use Rattle.resp_codec.specs.Spelling.{IsRequest};
@@ -11,16 +12,16 @@ ghost use Rattle.disk_model.specs.Files.{file, with_appended, Become, IsThere};
 ghost use Rattle.disk_model.specs.Told.{files_told};
 ghost use Rattle.modhost.specs.Does.{does};
 ghost use Rattle.resp_codec.specs.Requests.{quits};
-ghost use Rattle.modhost.specs.Pipe.{Outside, ServesAll};
+ghost use Rattle.modhost.specs.Pipe.{ServesAll};
+ghost use Rattle.modhost.specs.Serving.{source_change, sink_change, files_change};
 ghost use Rattle.modhost.specs.Serving.{ServeStops, SendStops, RefuseEnds, TakeStops, SourceStops};
-ghost use Rattle.modhost.specs.Ending.{opening_at};
+ghost use Rattle.modhost.specs.Ending.{told_outside, opening_at};
 
 use crate::host::Host;
-use crate::sink::{Sink, SinkFault};
-use crate::source::Source;
 use crate::status::Status;
 use core_types::{Args, BadRequest, Blob};
 use disk_model::{Dir, FileName};
+use io_edges::{Sink, SinkFault, Source};
 use resp_codec::{Got, Reader, bad_reply, write_reply};
 use std::alloc::Global;
 
@@ -35,9 +36,9 @@ pub const MAX_INPUT: u64 = 1 << 40;
 
 /// Serves a source over an open log, and sends each reply once its unit is in the log and synced.
 ///
-/// `Ok` is the end of the input, or QUIT. An `Err` says what stopped it: a fault of the directory, the source
-/// or the sink, want of memory, more than 2^40 bytes, a bad request (whose error is sent), or an end within
-/// a request.
+/// `Ok` is the end of the input, or QUIT. An `Err` says what stopped it: a fault of the directory,
+/// the source or the sink, want of memory, more than 2^40 bytes, a bad request (whose error is
+/// sent), or an end within a request.
 pub fn serve_source<D: Dir, S: Source, K: Sink>(
     alloc: Global,
     host: &mut Host<D>,
@@ -45,23 +46,17 @@ pub fn serve_source<D: Dir, S: Source, K: Sink>(
     sink: &mut K,
 ) -> Result<(), Status>
     requires log { IsThere FileName.Log (files_told (D.told host.old.dir)) }
-    ensures all { OnOk result (ServesAll (record {
-      input = S.left source.old;
-      left = S.left source.new;
-      sent_before = K.got sink.old;
-      sent = K.got sink.new;
-      files_before = files_told (D.told host.old.dir);
-      files = files_told (D.told host.new.dir);
-    }) (opening_at (files_told (D.told host.old.dir)) host.old.keys)) }
-    ensures stop { IfErr result (λ status. SourceStops status (record {
-      input = S.left source.old;
-      left = S.left source.new;
-      sent_before = K.got sink.old;
-      sent = K.got sink.new;
-      files_before = files_told (D.told host.old.dir);
-      files = files_told (D.told host.new.dir);
-    }) (opening_at (files_told (D.told host.old.dir)) host.old.keys)
-        (D.told host.old.dir).faults (D.told host.new.dir).faults (S.faults source.old) (S.faults source.new) (K.faults sink.old) (K.faults sink.new)) }
+    ensures all { OnOk result (ServesAll
+        (told_outside (S.told source.old) (S.told source.new) (K.told sink.old) (K.told sink.new)
+        (D.told host.old.dir) (D.told host.new.dir))
+        (opening_at (files_told (D.told host.old.dir)) host.old.keys)) }
+    ensures stop { IfErr result (λ status. SourceStops status
+        (told_outside (S.told source.old) (S.told source.new) (K.told sink.old) (K.told sink.new)
+        (D.told host.old.dir) (D.told host.new.dir))
+        (opening_at (files_told (D.told host.old.dir)) host.old.keys)
+        (D.told host.old.dir).faults (D.told host.new.dir).faults
+        (S.told source.old).faults (S.told source.new).faults
+        (K.told sink.old).faults (K.told sink.new).faults) }
 {
     let mut reader = Reader::new(alloc);
     let mut out = Blob::new(alloc);
@@ -89,10 +84,11 @@ pub fn serve_source<D: Dir, S: Source, K: Sink>(
     }
 }
 
-// What an input comes to that ended here: all of it was served, or it ends within a request.
+// How an input ends here: all of it was served, or it ends within a request.
 fn at_end(reader: &Reader) -> Result<(), Status>
     ensures whole { OnOk result (reader.now.rest ≡ []) }
-    ensures cut { IfErr result (λ status. (status ≡ Status.CutOff (length reader.now.rest)) × (0 < length reader.now.rest)) }
+    ensures cut { IfErr result (λ status.
+        (status ≡ Status.CutOff (length reader.now.rest)) × (0 < length reader.now.rest)) }
 {
     match reader.rest() {
         0 => Ok(()),
@@ -108,8 +104,7 @@ fn refuse<K: Sink>(
     out: &mut Blob,
     sink: &mut K,
 ) -> Status
-    ensures end { RefuseEnds result kind offset
-        (record { old = K.got sink.old; new = K.got sink.new; faults_old = K.faults sink.old; faults_new = K.faults sink.new }) }
+    ensures end { RefuseEnds result kind offset (sink_change (K.told sink.old) (K.told sink.new)) }
 {
     match send_error(alloc, kind, out, sink) {
         Ok(()) => Status::Protocol(kind, offset),
@@ -124,9 +119,10 @@ fn send_error<K: Sink>(
     out: &mut Blob,
     sink: &mut K,
 ) -> Result<(), Status>
-    ensures sent { OnOk result (Appends (K.got sink.old) (K.got sink.new) (text (bad_reply kind))) }
+    ensures sent { OnOk result
+        (Appends (K.told sink.old).got (K.told sink.new).got (text (bad_reply kind))) }
     ensures stop { IfErr result (λ status. SendStops status (text (bad_reply kind))
-        (record { old = K.got sink.old; new = K.got sink.new; faults_old = K.faults sink.old; faults_new = K.faults sink.new })) }
+        (sink_change (K.told sink.old) (K.told sink.new))) }
 {
     out.truncate(0);
     write_reply(out, &bad_reply(alloc, &kind)?)?;
@@ -136,9 +132,10 @@ fn send_error<K: Sink>(
 
 // Gives the sink all bytes, in as many pieces as it takes.
 fn put_all<K: Sink>(sink: &mut K, bytes: &[u8]) -> Result<(), SinkFault>
-    ensures ok { OnOk result (Appends (K.got sink.old) (K.got sink.new) bytes.now) }
-    ensures err { OnErr result ((count : ℕ) × Appends (K.got sink.old) (K.got sink.new) (take count bytes.now)) }
-    ensures cause { HasCause (K.faults sink.old) (K.faults sink.new) result }
+    ensures ok { OnOk result (Appends (K.told sink.old).got (K.told sink.new).got bytes.now) }
+    ensures err { OnErr result ((count : ℕ)
+        × Appends (K.told sink.old).got (K.told sink.new).got (take count bytes.now)) }
+    ensures cause { HasCause (K.told sink.old).faults (K.told sink.new).faults result }
 {
     let mut done = 0;
     while done < bytes.len() {
@@ -159,14 +156,16 @@ fn answer<D: Dir, K: Sink>(
     requires request { IsRequest words }
     requires log { IsThere FileName.Log (files_told (D.told host.old.dir)) }
     ensures keys { OnOk result (host.new.keys ≡ (does host.old.keys words).keys) }
-    ensures logged { OnOk result (Become (with_appended FileName.Log (unit (does host.old.keys words).effects))
+    ensures logged { OnOk result
+        (Become (with_appended FileName.Log (unit (does host.old.keys words).effects))
         (files_told (D.told host.old.dir)) (files_told (D.told host.new.dir))) }
-    ensures sent { OnOk result (Appends (K.got sink.old) (K.got sink.new) (text (does host.old.keys words).reply)) }
+    ensures sent { OnOk result (Appends (K.told sink.old).got (K.told sink.new).got
+        (text (does host.old.keys words).reply)) }
     ensures stop { IfErr result (λ status. ServeStops status (does host.old.keys words)
-        (record { old = files_told (D.told host.old.dir); new = files_told (D.told host.new.dir); faults_old = (D.told host.old.dir).faults; faults_new = (D.told host.new.dir).faults })
-        (record { old = K.got sink.old; new = K.got sink.new; faults_old = K.faults sink.old; faults_new = K.faults sink.new })) }
+        (files_change (D.told host.old.dir) (D.told host.new.dir))
+        (sink_change (K.told sink.old) (K.told sink.new))) }
     ensures dir_kept { OnOk result ((D.told host.new.dir).faults ≡ (D.told host.old.dir).faults) }
-    ensures sink_kept { OnOk result (K.faults sink.new ≡ K.faults sink.old) }
+    ensures sink_kept { OnOk result ((K.told sink.new).faults ≡ (K.told sink.old).faults) }
 {
     out.truncate(0);
     host.serve(alloc, words, out)?;
@@ -186,18 +185,19 @@ fn empty(alloc: Global, out: &mut Blob)
     }
 }
 
-// The next piece of an input of which so many bytes were taken. Nothing comes at its end.
+// The next piece of an input of which `taken` bytes were taken. At its end the piece is empty.
 fn next_piece<S: Source>(source: &mut S, buffer: &mut [u8], taken: u64) -> Result<usize, Status>
     requires room { 0 < length buffer.old }
     requires within { taken ≤ 2 ^ 40 }
     ensures bound { IfOk result (λ count. count ≤ length buffer.new) }
     ensures within { IfOk result (λ count. taken + count ≤ 2 ^ 40) }
-    ensures bytes { IfOk result (λ count. Consumes (S.left source.old) (S.left source.new) (take count buffer.new)) }
-    ensures end { IfOk result (λ count. count ≡ 0 → IsAtEnd (S.left source.new)) }
+    ensures bytes { IfOk result (λ count.
+        Consumes (S.told source.old).left (S.told source.new).left (take count buffer.new)) }
+    ensures end { IfOk result (λ count. count ≡ 0 → IsAtEnd (S.told source.new).left) }
     ensures stop { IfErr result (λ status. TakeStops status
-        (record { old = S.left source.old; new = S.left source.new; faults_old = S.faults source.old; faults_new = S.faults source.new })) }
+        (source_change (S.told source.old) (S.told source.new))) }
     ensures too_long { IfErr result (λ status. status ≡ Status.TooLong → taken ≡ 2 ^ 40) }
-    ensures kept { OnOk result (S.faults source.new ≡ S.faults source.old) }
+    ensures kept { OnOk result ((S.told source.new).faults ≡ (S.told source.old).faults) }
 {
     let room = MAX_INPUT - taken;
     let wanted = room.clamp(1, buffer.len() as u64) as usize;

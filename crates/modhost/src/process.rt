@@ -1,11 +1,10 @@
 //! The process round the top call: its arguments, its standard streams, and its exit status.
 
-use crate::sink::RealSink;
-use crate::source::RealSource;
 use crate::status::{Status, status_code};
 use crate::top::modhost;
 use core_types::NoMemory;
 use disk_model::RealDir;
+use io_edges::{RealSink, RealSource};
 use std::fs::File;
 use std::process::ExitCode;
 use std::{env, io};
@@ -14,7 +13,8 @@ const HELP: &str = "\
 modhost: a keyspace server in the manner of Redis
 
     modhost pipe DIR    serve the requests of standard input (RESP2) over the append-only log in the
-                        folder DIR, which is begun where there is none; replies go to standard output
+                        folder DIR, which is begun where there is none; replies go to standard
+                        output
     modhost --help, -h  print this
     modhost --version   print the version
 ";
@@ -23,8 +23,8 @@ const VERSION: &str = "modhost 0.1.0\n";
 
 /// Does what the process was asked to do.
 ///
-/// Where a standard stream is closed, the next file to be opened would get its number, and replies could end
-/// up in the log. So three handles are held first: reading or writing one of them fails.
+/// Where a standard stream is closed, the next file to be opened would get its number, and replies
+/// could end up in the log. So three handles are held first: reading or writing one of them fails.
 pub fn run(rt: &HostRuntime) -> Status {
     match (held(rt), held(rt), held(rt)) {
         (Ok(_first), Ok(_second), Ok(_third)) => run_held(rt),

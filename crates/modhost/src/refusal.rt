@@ -7,7 +7,7 @@ use crate::command::Command;
 use core_types::{Blob, NoMemory, Reply};
 use std::alloc::Global;
 
-// So many bytes of an unknown name are told.
+// The number of bytes of an unknown name that are told, at the most.
 const SHOWN: usize = 128;
 
 /// `ERR unknown command 'NAME'`, of the name's first 128 bytes.

@@ -5,11 +5,10 @@ ghost use Rattle.modhost.specs.Status.{code_of};
 ghost use Rattle.modhost.specs.Stops.{status_of_stop};
 ghost use Rattle.modhost.specs.declared.status.Status.TheVariants as status;
 
-use crate::sink::SinkFault;
-use crate::source::SourceFault;
 use core_types::{BadRequest, NoMemory};
 use disk_model::{DirFault, FileName};
 use effect_log::Reason;
+use io_edges::{SinkFault, SourceFault};
 use restart::OpenStop;
 use std::alloc::AllocError;
 use std::fmt;
@@ -19,8 +18,8 @@ use std::fmt;
 pub enum Status {
     /// The input was served to its end, or to QUIT.
     Done,
-    /// The words are of no form: the place of the first that none allows, counted from 0, or their number
-    /// where one is missing.
+    /// The words are of no form: the place of the first that none allows, counted from 0, or their
+    /// number where one is missing.
     Usage(u32),
     /// The file is no log: the offset of its first fault, and the reason.
     LogRefused {
@@ -41,7 +40,7 @@ pub enum Status {
     Memory,
     /// The input goes on with what is no request: why, and the offset of the bad byte.
     Protocol(BadRequest, u64),
-    /// The input ended so many bytes into a request.
+    /// The input ended within a request, of which this number of bytes came.
     CutOff(u64),
     /// The input goes on after 2^40 bytes.
     TooLong,

@@ -1,8 +1,8 @@
-use crate::memory::{MemorySink, MemorySource};
 use crate::status::Status;
 use crate::top::modhost;
 use core_types::NoMemory;
 use disk_model::{FileName, MemoryDir};
+use io_edges::{MemorySink, MemorySource};
 use std::alloc::Global;
 use std::test::Fail;
 
@@ -61,8 +61,9 @@ fn ample(rt: HostRuntime) -> Result<(), Fail> {
     Ok(())
 }
 
-// Each call of the directory fails in turn, over a new folder and over a torn log, and calls of the source and
-// the sink: no reply goes out before its unit is synced, and what was served by then stays.
+// Each call of the directory fails in turn, over a new folder and over a torn log, and calls of the
+// source and the sink: no reply goes out before its unit is synced, and what was served by then
+// stays.
 #[test]
 fn a_call_fails(rt: HostRuntime) -> Result<(), Fail> {
     let new: [(u64, u64, u64, Status, usize, Option<usize>); 10] = [

@@ -10,10 +10,11 @@ pub enum Job {
     Pipe,
 }
 
-/// Why the words ask for nothing.
+/// Why the words are of no form.
 #[derive(Clone, Copy, Debug, PartialEq, Eq)]
 pub enum WordsFault {
-    /// The place of the first word that no form allows, or the number of words where one is missing.
+    /// The place of the first word that no form allows, or the number of words where one is
+    /// missing.
     Usage(u32),
 }
 

@@ -4,11 +4,11 @@ use Rattle.modhost.proofs.pipe.put_all.Given as goal
 
 abbrev pub invariant-loop-done : goal.invariant-loop-done
 invariant-loop-done g l =
-    let got = g.K.Sink.got in
+    let told = g.K.Sink.told in
     record {
       within : l.done ≤ length l.bytes;
-      sent : Appends (got l.fn.sink) (got l.sink) (take l.done l.bytes);
-      kept : g.K.Sink.faults l.sink ≡ g.K.Sink.faults l.fn.sink;
+      sent : Appends (told l.fn.sink).got (told l.sink).got (take l.done l.bytes);
+      kept : (told l.sink).faults ≡ (told l.fn.sink).faults;
     }
 
 abbrev pub decreases-loop-done : goal.decreases-loop-done

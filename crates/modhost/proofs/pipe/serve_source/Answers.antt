@@ -61,7 +61,7 @@ pub returns-then-quits-clause-all : goal.returns-then-quits-clause-all
 returns-then-quits-clause-all g c =
     let e = c.in_ok-answer-in-Request.ensures in
     let t = c.in_ok-words.ensures.request c.in-Request.words (ap Ok c.in-Request.is) in
-    let s : Serving c.serving.host.keys c.answer.new.host.keys c.in-Request.words (g.K.Sink.got c.serving.sink) (g.K.Sink.got c.answer.new.sink) (files_told (g.D.Dir.told c.serving.host.dir)) (files_told (g.D.Dir.told c.answer.new.host.dir))
+    let s : Serving c.serving.host.keys c.answer.new.host.keys c.in-Request.words (g.K.Sink.told c.serving.sink).got (g.K.Sink.told c.answer.new.sink).got (files_told (g.D.Dir.told c.serving.host.dir)) (files_told (g.D.Dir.told c.answer.new.host.dir))
     = record { keys = e.keys; reply = e.sent; logged = e.logged } in
     quits_now _ _ _ _ _ _ _ _ _ _ _ _ _ _ _ (comes _ _ _ t _ _ _ _ _ _ _ _ c.serving.invariant.progress) t.spells (behind _ _ _ t) s (sym c.is_quit-quits.ensures ∙ c.if-quits.true)
 
@@ -70,7 +70,7 @@ serving-preserved-else-quits g c =
     let i = c.serving.invariant in
     let e = c.in_ok-answer-in-Request.ensures in
     let t = c.in_ok-words.ensures.request c.in-Request.words (ap Ok c.in-Request.is) in
-    let s : Serving c.serving.host.keys c.answer.new.host.keys c.in-Request.words (g.K.Sink.got c.serving.sink) (g.K.Sink.got c.answer.new.sink) (files_told (g.D.Dir.told c.serving.host.dir)) (files_told (g.D.Dir.told c.answer.new.host.dir))
+    let s : Serving c.serving.host.keys c.answer.new.host.keys c.in-Request.words (g.K.Sink.told c.serving.sink).got (g.K.Sink.told c.answer.new.sink).got (files_told (g.D.Dir.told c.serving.host.dir)) (files_told (g.D.Dir.told c.answer.new.host.dir))
     = record { keys = e.keys; reply = e.sent; logged = e.logged } in
     record {
       progress = goes_on _ _ _ _ _ _ _ _ _ _ _ _ _ _ _ (comes _ _ _ t _ _ _ _ _ _ _ _ i.progress) t.spells (behind _ _ _ t) s (sym c.is_quit-quits.ensures ∙ c.if-quits.false);
@@ -91,8 +91,8 @@ pub returns-then-count-eq0-clause-all : goal.returns-then-count-eq0-clause-all
 returns-then-count-eq0-clause-all g c =
     let e = c.in_ok-count-in-More.ensures in
     let w = c.in_ok-words.ensures.more (ap Ok c.in-More.is) in
-    let none : Consumes (g.S.Source.left c.serving.source) (g.S.Source.left c.next_piece.new.source) []
-    = subst (λ (n : ℕ). Consumes (g.S.Source.left c.serving.source) (g.S.Source.left c.next_piece.new.source) (take n c.next_piece.new.buffer)) c.if-count-eq0.true e.bytes in
+    let none : Consumes (g.S.Source.told c.serving.source).left (g.S.Source.told c.next_piece.new.source).left []
+    = subst (λ (n : ℕ). Consumes (g.S.Source.told c.serving.source).left (g.S.Source.told c.next_piece.new.source).left (take n c.next_piece.new.buffer)) c.if-count-eq0.true e.bytes in
     on_ok_weaker c.at_end.result (λ (nothing : c.next.new.self.rest ≡ []).
     ends_all _ _ _ _ _ _ _ _ _ _ (waits_on _ _ w _ _ _ _ _ _ _ _ c.serving.invariant.progress) none (e.end c.if-count-eq0.true) nothing) c.at_end.ensures.whole
 
@@ -100,8 +100,8 @@ pub returns-then-count-eq0-clause-stop : goal.returns-then-count-eq0-clause-stop
 returns-then-count-eq0-clause-stop g c =
     let e = c.in_ok-count-in-More.ensures in
     let w = c.in_ok-words.ensures.more (ap Ok c.in-More.is) in
-    let none : Consumes (g.S.Source.left c.serving.source) (g.S.Source.left c.next_piece.new.source) []
-    = subst (λ (n : ℕ). Consumes (g.S.Source.left c.serving.source) (g.S.Source.left c.next_piece.new.source) (take n c.next_piece.new.buffer)) c.if-count-eq0.true e.bytes in
+    let none : Consumes (g.S.Source.told c.serving.source).left (g.S.Source.told c.next_piece.new.source).left []
+    = subst (λ (n : ℕ). Consumes (g.S.Source.told c.serving.source).left (g.S.Source.told c.next_piece.new.source).left (take n c.next_piece.new.buffer)) c.if-count-eq0.true e.bytes in
     IfErr-weaker c.at_end.result _ _ (λ end cut.
     stops_within _ _ _ _ _ _ _ _ _ _ (waits_on _ _ w _ _ _ _ _ _ _ _ c.serving.invariant.progress) none (e.end c.if-count-eq0.true) end _ _ _ _ _ _ cut.0 w.unfinished cut.1) c.at_end.ensures.cut
 

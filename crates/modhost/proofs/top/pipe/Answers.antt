@@ -10,5 +10,7 @@ returns-in-Ok g c =
 pub returns-in-Err : goal.returns-in-Err
 returns-in-Err g c =
     rw c.from.ensures
-    (pipe_unopened c.in-Err.stop (g.S.Source.left c.args.source.now) (g.K.Sink.got c.args.sink.now) (g.D.Dir.told c.args.dir) (g.D.Dir.told c.open_log.new.dir) (g.S.Source.faults c.args.source.now) (g.K.Sink.faults c.args.sink.now)
+    (pipe_unopened c.in-Err.stop (g.S.Source.told c.args.source.now).left (g.K.Sink.told c.args.sink.now).got
+    (g.D.Dir.told c.args.dir) (g.D.Dir.told c.open_log.new.dir)
+    (g.S.Source.told c.args.source.now).faults (g.K.Sink.told c.args.sink.now).faults
     c.in-Err.ensures.stop (λ is. c.open_log.ensures.cause.failed (c.in-Err.is ∙ ap Err is)))

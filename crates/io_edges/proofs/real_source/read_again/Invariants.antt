@@ -1,7 +1,7 @@
 -- Serves the clauses `bound` and `bytes` of `read_again`: the buffer keeps its length, and a failed read consumes nothing.
 use Rattle.std.proofs.Common.{◌≡◌, length}
 use Rattle.std.specs.Io.KnownBytes.{Keeps}
-use Rattle.modhost.proofs.source.read_again.Given as goal
+use Rattle.io_edges.proofs.real_source.read_again.Given as goal
 
 abbrev pub invariant-loop : goal.invariant-loop
 invariant-loop g l = (length l.into ≡ length l.initial.into) × Keeps (g.R.Read.remaining l.initial.reader) (g.R.Read.remaining l.reader)

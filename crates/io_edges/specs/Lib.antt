@@ -1,0 +1,4 @@
+pub mod Told
+pub mod Memory
+pub mod Real
+pub mod inner

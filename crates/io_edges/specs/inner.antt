@@ -1,0 +1,3 @@
+-- What the clauses of inner functions cite.
+pub mod Calls
+pub mod Answers
