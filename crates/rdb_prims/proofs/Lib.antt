@@ -1,0 +1,9 @@
+pub mod Steps
+pub mod Forms
+pub mod Lengths
+pub mod Integers
+pub mod Strings
+pub mod StringsFound
+pub mod Readings
+pub mod Written
+pub mod Sums

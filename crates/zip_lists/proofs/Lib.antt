@@ -1,0 +1,12 @@
+pub mod Parts
+pub mod Readings
+pub mod Wrongs
+pub mod Candidates
+pub mod Outcomes
+pub mod Breaks
+pub mod Fronts
+pub mod Headers
+pub mod Existence
+pub mod OneOutcome
+pub mod ItemFronts
+pub mod Walks
