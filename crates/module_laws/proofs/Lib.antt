@@ -1,0 +1,3 @@
+pub mod HalfViews
+pub mod Counting
+pub mod SetReplay

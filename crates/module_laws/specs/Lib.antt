@@ -1,0 +1,16 @@
+pub mod Words
+pub mod Types
+pub mod Limits
+pub mod Told
+pub mod Meaning
+pub mod Replay
+pub mod Laws
+pub mod Runs
+pub mod Sides
+pub mod Applying
+pub mod Loading
+pub mod Rewriting
+pub mod Telling
+pub mod Sets
+pub mod Joining
+pub mod inner

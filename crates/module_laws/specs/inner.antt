@@ -1,0 +1,4 @@
+pub mod HalfTypes
+pub mod OneSet
+pub mod TwoSets
+pub mod Least
