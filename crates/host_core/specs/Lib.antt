@@ -1,0 +1,10 @@
+pub mod Builtins
+pub mod Clients
+pub mod State
+pub mod Connection
+pub mod Serving
+pub mod Expiry
+pub mod Events
+pub mod Replay
+pub mod Fold
+pub mod Laws

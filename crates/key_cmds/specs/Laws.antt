@@ -1,0 +1,55 @@
+-- What holds of every command on the keys.
+use Rattle.std.specs.Prelude.{◌≡◌, ◌≢◌, ◌⊎◌, ℕ, Bool, true, List, [], ◌∷◌, ◌++◌, flat_map, Some}
+use Rattle.std.specs.List.{AllByRecursion}
+use Rattle.std.specs.FinMap as finite
+use Rattle.core_types.specs.CommandRow.{MeetArity}
+use Rattle.core_types.specs.Done.{word}
+use Rattle.core_types.specs.Keys.{KeysOf}
+use Rattle.core_types.specs.Keyspace.{IsKeyspace}
+use Rattle.core_types.specs.declared.effect.Effect.{Effect}
+use Rattle.core_types.specs.declared.reply.Reply.{Reply}
+use Rattle.core_types.specs.declared.reply.Reply.TheVariants as reply
+use Rattle.string_cmds.specs.Laws.{IsSmallEffect}
+use Rattle.key_cmds.specs.declared.command.Command.{Command}
+use Rattle.key_cmds.specs.Commands.{command_row}
+use Rattle.key_cmds.specs.Run.{Run, native_in}
+use Rattle.key_cmds.specs.Rows.{does}
+
+abbrev pub IsRefusal : Reply → Type 0
+IsRefusal said = (text : List ℕ) × (said ≡ reply.Error text)
+
+module _ {N : Type 0} where
+  -- the keys stay as they are, and nobody is told of anything
+  pub record ChangesNothing (keys : KeysOf N) (run : Run N) : Type 0 where
+    pub same : run.keys ≡ keys
+    pub effects : run.effects ≡ []
+    pub notes : run.notes ≡ []
+    pub left : run.left ≡ []
+
+  -- the words are those of a command that is written into a log and makes these keys of those, at
+  -- any moment that it is done again: at moment 0
+  pub record Remakes (type_name : N → List ℕ) (keys after : KeysOf N)
+      (effect : Effect) : Type 0 where
+    pub cmd : Command
+    pub named : word 0 effect.words ≡ (command_row cmd).name
+    pub writes : (command_row cmd).writes ≡ true
+    pub arity : MeetArity (command_row cmd) effect.words
+    pub again : (does type_name 0 cmd keys effect.words).keys ≡ after
+    pub accepted : ¬ IsRefusal (does type_name 0 cmd keys effect.words).reply
+
+  -- a change of the keys, with one effect that makes it again, and of which somebody is told
+  pub record ChangesOnce (type_name : N → List ℕ) (keys : KeysOf N) (run : Run N) : Type 0 where
+    pub effect : Effect
+    pub effects : run.effects ≡ effect ∷ []
+    pub remakes : Remakes type_name keys run.keys effect
+    pub notes : run.notes ≢ []
+    pub accepted : ¬ IsRefusal run.reply
+
+  -- the modules' values that keys have, in the order of the keys
+  abbrev pub natives : KeysOf N → List N
+  natives keys = flat_map (λ entry. native_in (Some entry.1.value)) (finite.entries keys)
+
+  -- what the keys may be, they stay, and each effect may be a request
+  pub record KeepsLimits (allowed : N → Bool) (run : Run N) : Type 0 where
+    pub keys : IsKeyspace allowed run.keys
+    pub effects : AllByRecursion IsSmallEffect run.effects

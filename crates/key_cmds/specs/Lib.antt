@@ -1,0 +1,9 @@
+pub mod Commands
+pub mod Run
+pub mod OneKey
+pub mod SeveralKeys
+pub mod Deadlines
+pub mod Rows
+pub mod Leaving
+pub mod Laws
+pub mod inner

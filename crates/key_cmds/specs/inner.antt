@@ -1,0 +1,4 @@
+-- What the inner functions' clauses cite.
+pub mod Plain
+pub mod Several
+pub mod Settling

@@ -1,0 +1,95 @@
+//! The commands on one hash.
+
+ghost use Rattle.std.specs.Prelude.{◌≡◌, ◌++◌, Some, IfOk, OnOk, OnErr};
+ghost use Rattle.core_types.specs.CommandRow.{MeetArity};
+ghost use Rattle.core_types.specs.Done.{word};
+ghost use Rattle.core_types.specs.Keys.{value_at};
+ghost use Rattle.hash_cmds.specs.Commands as hash_commands;
+ghost use Rattle.key_cmds.specs.OneKey.{on_hash, hash_done};
+ghost use Rattle.key_cmds.specs.Run.{told};
+ghost use Rattle.key_cmds.specs.declared.plain.Plain.TheVariants as plain;
+ghost use Rattle.key_cmds.specs.inner.Plain.{done_of};
+ghost use Rattle.key_cmds.specs.inner.Settling.{DoesToKeys, DoesToValue, HasRoom};
+
+use crate::Ran;
+use crate::plain::{Plain, of_hash};
+use crate::settling::{make_room, settle};
+use core_types::{Args, NoMemory, Outcome, Value};
+use hash_cmds::HashCmd;
+use key_store::KeyStore;
+use std::alloc::Global;
+use std::hash::RandomState;
+
+/// A command on a hash.
+pub(crate) fn on_hash_key<N>(
+    alloc: Global,
+    hashing: RandomState,
+    cmd: HashCmd,
+    keys: &mut KeyStore<N>,
+    words: &Args,
+    left: &mut Vec<N>,
+) -> Result<Ran, NoMemory>
+    requires { MeetArity (hash_commands.command_row cmd) words.now }
+    ensures keys { OnOk result (keys.new ≡ (on_hash cmd keys.old words.now).keys) }
+    ensures told { IfOk result (λ ran. ran ≡ told (on_hash cmd keys.old words.now)) }
+    ensures left { OnOk result
+        (left.new.items ≡ left.old.items ++ (on_hash cmd keys.old words.now).left) }
+    ensures err { OnErr result ((keys.new ≡ keys.old) × (left.new.items ≡ left.old.items)) }
+{
+    let outcome = hash_outcome(alloc, hashing, cmd, keys, words, left)?;
+    settle(alloc, keys, words.word(1), outcome, left)
+}
+
+// What a command on a hash does to its key, whose value it may change in its place.
+fn hash_outcome<N>(
+    alloc: Global,
+    hashing: RandomState,
+    cmd: HashCmd,
+    keys: &mut KeyStore<N>,
+    words: &Args,
+    left: &mut Vec<N>,
+) -> Result<Outcome<Plain>, NoMemory>
+    requires { MeetArity (hash_commands.command_row cmd) words.now }
+    ensures does { IfOk result
+        (λ o. DoesToKeys (word 1 words.now) o keys.old keys.new
+        (done_of plain.Hash (hash_done cmd (value_at keys.old (word 1 words.now)) words.now))) }
+    ensures room { OnOk result (HasRoom left.new (value_at keys.new (word 1 words.now))) }
+    ensures same { left.new.items ≡ left.old.items }
+    ensures err { OnErr result (keys.new ≡ keys.old) }
+{
+    match keys.get_mut(words.word(1)) {
+        Some(held) => hash_outcome_on(alloc, hashing, cmd, held, words, left),
+        None => Ok(of_hash(hash_cmds::run(alloc, hashing, cmd, None, words)?)),
+    }
+}
+
+fn hash_outcome_on<N>(
+    alloc: Global,
+    hashing: RandomState,
+    cmd: HashCmd,
+    held: &mut Value<N>,
+    words: &Args,
+    left: &mut Vec<N>,
+) -> Result<Outcome<Plain>, NoMemory>
+    requires { MeetArity (hash_commands.command_row cmd) words.now }
+    ensures does { IfOk result
+        (λ o. DoesToValue o held.old held.new
+        (done_of plain.Hash (hash_done cmd (Some held.old) words.now))) }
+    ensures room { OnOk result (HasRoom left.new (Some held.new)) }
+    ensures same { left.new.items ≡ left.old.items }
+    ensures err { OnErr result (held.new ≡ held.old) }
+{
+    match held {
+        Value::Hash(fields) => Ok(of_hash(hash_cmds::run(
+            alloc,
+            hashing,
+            cmd,
+            Some(fields),
+            words,
+        )?)),
+        other => {
+            make_room(Some(&*other), left)?;
+            Ok(of_hash(hash_cmds::run_other_kind(alloc, cmd, words)?))
+        }
+    }
+}
