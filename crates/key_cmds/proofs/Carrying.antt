@@ -1,10 +1,10 @@
 -- How what a command does to one value is carried to the keys. Serves the clauses of the commands on one key.
-use Rattle.std.proofs.Common.{◌≡◌, ℕ, List, [], ◌∷◌, ◌++◌, Result, Ok, Err, IfOk, OnOk, OnErr, Option, Some, None, unwrap_or, ◌≤◌, vec_len, vec_capacity, refl, sym, ap, subst, ◌∙◌, arith}
+use Rattle.std.proofs.Common.{◌≡◌, ℕ, List, [], ◌++◌, Result, Ok, Err, IfOk, OnOk, OnErr, Option, Some, None, unwrap_or, ◌≤◌, vec_len, vec_capacity, refl, sym, ap, subst, ◌∙◌, arith}
 use Rattle.std.specs.declared.alloc.Global.{Global}
 use Rattle.std.specs.declared.vec.Vec.{Vec}
 use Rattle.std.proofs.lemmas.Option.{none-some}
 use Rattle.core_types.specs.Done.{Change, Does, Done, Makes}
-use Rattle.core_types.specs.Keys.{KeysOf, value_at, with_changed, with_value, without, deadline_at}
+use Rattle.core_types.specs.Keys.{KeysOf, value_at, with_changed, with_value, deadline_at}
 use Rattle.core_types.specs.declared.no_memory.NoMemory.{NoMemory}
 use Rattle.core_types.specs.declared.outcome.After.{After}
 use Rattle.core_types.specs.declared.outcome.After.TheVariants as after

@@ -1,5 +1,5 @@
 -- What a key has of a deadline. Serves the clauses of the commands on deadlines.
-use Rattle.std.proofs.Common.{◌≡◌, ◌≢◌, ℕ, ℤ, pos, negsuc, Bool, true, false, List, [], Option, Some, None, IsSome, is_some, unwrap_or, if◌then◌else◌, refl, sym, ap, subst, ◌∙◌, FitsSigned}
+use Rattle.std.proofs.Common.{◌≡◌, ◌≢◌, ℕ, ℤ, pos, negsuc, Bool, true, false, List, [], Option, Some, None, is_some, unwrap_or, if◌then◌else◌, refl, sym, ap, ◌∙◌, FitsSigned}
 use Rattle.std.specs.Prelude.{◌+ℤ◌, ◌*ℤ◌}
 use Rattle.std.specs.Int.{w64}
 use Rattle.std.proofs.lemmas.Option.{none-some}

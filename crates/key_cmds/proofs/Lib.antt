@@ -5,3 +5,9 @@ pub mod Removing
 pub mod Pairs
 pub mod Printed
 pub mod Due
+pub mod LimitsOfKeys
+pub mod LimitsOfDue
+pub mod LimitsOfNatives
+pub mod OneRemade
+pub mod SeveralRemade
+pub mod Remade

@@ -1,5 +1,5 @@
 -- What setting pairs one after the other leaves. Serves the clauses of MSET.
-use Rattle.std.proofs.Common.{◌≡◌, ℕ, List, [], ◌∷◌, ◌++◌, refl, sym, ap, subst, ◌∙◌, append_assoc}
+use Rattle.std.proofs.Common.{◌≡◌, List, [], ◌∷◌, ◌++◌, refl, sym, ap, subst, ◌∙◌, append_assoc}
 use Rattle.std.proofs.lemmas.List.{append-nil}
 use Rattle.core_types.specs.Keys.{KeysOf, value_at, with_value}
 use Rattle.core_types.specs.declared.value.Value.TheVariants as value

@@ -1,5 +1,5 @@
 -- A type's name is a line as it is. Serves the clause of tell_type.
-use Rattle.std.proofs.Common.{◌≡◌, ◌<◌, ℕ, zero, suc, List, [], ◌∷◌, length, map, get_or, refl, ap, ◌∙◌, arith}
+use Rattle.std.proofs.Common.{◌≡◌, ◌<◌, ℕ, suc, List, [], ◌∷◌, length, map, get_or, refl, ap, ◌∙◌, arith}
 use Rattle.std.proofs.lemmas.Bool.Decides.{nat_tests}
 use Rattle.type_ids.specs.Letter.{IsLetter}
 use Rattle.type_ids.specs.Name.{IsTypeName}

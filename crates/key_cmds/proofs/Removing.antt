@@ -1,19 +1,18 @@
 -- What the removal of keys one after the other leaves. Serves the clauses of DEL.
-use Rattle.std.proofs.Common.{◌≡◌, ◌+◌, ◌≤◌, ◌<◌, ◌⊎◌, inl, inr, ℕ, suc, pos, Bool, true, false, List, [], ◌∷◌, ◌++◌, length, map, flat_map, filter, codes, Option, Some, None, is_some, if◌then◌else◌, refl, sym, ap, subst, ◌∙◌, arith, append_assoc, length-append, true≢false}
+use Rattle.std.proofs.Common.{◌≡◌, ◌+◌, ◌≤◌, ◌<◌, ◌⊎◌, inl, inr, ℕ, suc, pos, Bool, true, false, List, [], ◌∷◌, ◌++◌, length, map, filter, codes, Option, Some, None, is_some, if◌then◌else◌, refl, sym, ap, subst, ◌∙◌, arith, append_assoc, length-append, true≢false}
 use Rattle.std.specs.Prelude.{◌==◌}
 use Rattle.std.specs.Option.{option_map}
 use Rattle.std.specs.Str.{bytes_eq}
 use Rattle.std.proofs.lemmas.Bool.Decides.{nat_tests}
 use Rattle.std.proofs.lemmas.List.{append-nil}
 use Rattle.core_types.specs.Done.{own_words}
-use Rattle.core_types.specs.Keys.{Entry, KeysOf, entry_at, value_at, without}
+use Rattle.core_types.specs.Keys.{KeysOf, entry_at, value_at, without}
 use Rattle.core_types.specs.declared.note.Note.{Note}
 use Rattle.core_types.specs.declared.reply.Reply.TheVariants as reply
 use Rattle.core_types.specs.declared.value.Value.{Value}
 use Rattle.core_types.proofs.KeyLemmas.{entry_at-without}
 use Rattle.key_cmds.specs.Run.{native_in, told}
 use Rattle.key_cmds.specs.SeveralKeys.{Removed, deletes, goes_first, is_there, removed}
-use Rattle.key_cmds.specs.declared.ran.Ran.{Ran}
 use Rattle.key_cmds.specs.inner.Several.{del_note, natives_named, note_keys, notes_left, notes_named, where_there}
 use Rattle.key_cmds.proofs.OneKeyOf.{without_absent}
 

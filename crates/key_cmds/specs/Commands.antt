@@ -1,5 +1,5 @@
 -- The commands on the keys, a row each.
-use Rattle.std.specs.Prelude.{ℕ, ℤ, pos, negsuc, true, false, List, codes}
+use Rattle.std.specs.Prelude.{pos, negsuc, false, codes}
 use Rattle.core_types.specs.CommandRow.{CommandRow}
 use Rattle.string_cmds.specs.Commands.{reading, writing}
 use Rattle.string_cmds.specs.Commands as string_commands

@@ -1,7 +1,7 @@
 -- The commands on the moment at which a key is due, and what becomes of a key that is due. Moments
 -- and deadlines are milliseconds; the rounding, the refusals and the replies are this project's
 -- own.
-use Rattle.std.specs.Prelude.{ℕ, ℤ, pos, negsuc, ◌+◌, ◌-◌, ◌*◌, ◌+ℤ◌, ◌*ℤ◌, ◌/◌, ◌^◌, min, nat_le, Bool, true, if◌then◌else◌, List, [], ◌∷◌, codes, Option, Some, None}
+use Rattle.std.specs.Prelude.{ℕ, ℤ, pos, negsuc, ◌+◌, ◌-◌, ◌+ℤ◌, ◌*ℤ◌, ◌/◌, ◌^◌, min, nat_le, Bool, true, if◌then◌else◌, List, [], ◌∷◌, codes, Option, Some, None}
 use Rattle.std.specs.Fmt.{decimal}
 use Rattle.std.specs.Option.{option_map}
 use Rattle.byte_text.specs.Number.{fits_i64, i64_of}
@@ -12,7 +12,6 @@ use Rattle.core_types.specs.declared.effect.Effect.{Effect}
 use Rattle.core_types.specs.declared.note.Note.{Note}
 use Rattle.core_types.specs.declared.note.NoteClass.TheVariants as class
 use Rattle.core_types.specs.declared.refusal.Refusal.TheVariants as refusal
-use Rattle.core_types.specs.declared.reply.Reply.{Reply}
 use Rattle.core_types.specs.declared.reply.Reply.TheVariants as reply
 use Rattle.key_store.specs.NextDue.{next_due}
 use Rattle.key_cmds.specs.Run.{Run, answers, native_in, refuses}

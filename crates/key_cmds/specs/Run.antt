@@ -1,5 +1,5 @@
 -- What a command on the keys does: to the keys, and beside them.
-use Rattle.std.specs.Prelude.{ℕ, List, [], ◌∷◌, Option, Some, None}
+use Rattle.std.specs.Prelude.{List, [], ◌∷◌, Option, Some}
 use Rattle.core_types.specs.Keys.{KeysOf}
 use Rattle.core_types.specs.Refusals.{refused}
 use Rattle.core_types.specs.declared.effect.Effect.{Effect}

@@ -1,5 +1,4 @@
 -- Values that are no module's, and what commands on one kind of value say of them.
-use Rattle.std.specs.Prelude.{List}
 use Rattle.core_types.specs.Done.{Change, Done}
 use Rattle.core_types.specs.declared.outcome.After.{After}
 use Rattle.core_types.specs.declared.outcome.After.TheVariants as after

@@ -1,11 +1,9 @@
 -- How the outcome of a command on one key is carried to the keys.
-use Rattle.std.specs.Prelude.{◌≡◌, ◌+◌, ◌≤◌, ⊤, ℕ, List, [], ◌∷◌, length, Option, Some, None, vec_capacity, vec_len}
+use Rattle.std.specs.Prelude.{◌≡◌, ◌+◌, ◌≤◌, ⊤, ℕ, List, [], length, Option, Some, None, vec_capacity, vec_len}
 use Rattle.std.specs.declared.alloc.Global.{Global}
 use Rattle.std.specs.declared.vec.Vec.{Vec}
 use Rattle.core_types.specs.Done.{Change, Done}
 use Rattle.core_types.specs.Keys.{KeysOf, value_at, with_changed, with_value, without}
-use Rattle.core_types.specs.declared.effect.Effect.{Effect}
-use Rattle.core_types.specs.declared.note.Note.{Note}
 use Rattle.core_types.specs.declared.outcome.After.{After}
 use Rattle.core_types.specs.declared.outcome.After.TheVariants as after
 use Rattle.core_types.specs.declared.outcome.Outcome.{Outcome}

@@ -1,11 +1,10 @@
 -- Serves the clauses of expire, where the deadline has 64 bits.
-use Rattle.std.proofs.Common.{◌≡◌, ◌++◌, ◌∙◌, ℤ, pos, Some, OnOk, IfOk, sym, ap, subst, arith, FitsSigned}
+use Rattle.std.proofs.Common.{◌≡◌, ◌++◌, ◌∙◌, ℤ, pos, OnOk, IfOk, sym, ap, subst, arith, FitsSigned}
 use Rattle.std.specs.Prelude.{◌+ℤ◌, ◌*ℤ◌}
 use Rattle.std.specs.Int.{w64}
 use Rattle.std.proofs.lemmas.Int.{ints}
 use Rattle.std.proofs.Math.Facts.{to_z-of_z}
 use Rattle.byte_text.specs.Number.{i64_of}
-use Rattle.key_cmds.specs.Deadlines.{expire, expire_at}
 use Rattle.key_cmds.specs.Run.{Run, told}
 use Rattle.key_cmds.proofs.Due.{expire_is}
 use Rattle.key_cmds.proofs.deadlines.expire.Goals as goal

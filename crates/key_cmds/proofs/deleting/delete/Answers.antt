@@ -1,5 +1,5 @@
 -- Serves the clauses of delete.
-use Rattle.std.proofs.Common.{◌≡◌, ◌≤◌, ◌<◌, ◌+◌, ◌-◌, ◌++◌, ◌∙◌, [], ℕ, List, take, length-drop, length, drop, map, pos, sym, ap, arith, vec_len}
+use Rattle.std.proofs.Common.{◌≡◌, ◌<◌, ◌-◌, ◌++◌, ◌∙◌, ℕ, List, take, length-drop, length, drop, map, pos, sym, ap, arith}
 use Rattle.std.proofs.lemmas.Bool.Decides.{nat_tests}
 use Rattle.std.proofs.lemmas.List.{append-nil, take_all}
 use Rattle.key_cmds.specs.inner.Several.{del_note, natives_named, note_keys, notes_left, notes_named}

@@ -1,5 +1,5 @@
 -- Serves the clauses of remove_each.
-use Rattle.std.proofs.Common.{◌≡◌, ◌≤◌, ◌+◌, length, vec_len, vec_capacity}
+use Rattle.std.proofs.Common.{◌≤◌, ◌+◌, length, vec_len, vec_capacity}
 use Rattle.std.specs.VecDeque.{deque_len}
 use Rattle.key_cmds.specs.inner.Several.{natives_named, note_keys}
 use Rattle.key_cmds.proofs.Removing.{IsOnTheWay}
