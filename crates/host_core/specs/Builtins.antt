@@ -117,5 +117,5 @@ first_named name (cmd ∷ more) =
     if same_name (builtin_row cmd).name name then Some cmd else first_named name more
 
 -- the command of a name
-abbrev pub builtin_named : List ℕ → Option Builtin
+unfoldable pub builtin_named : List ℕ → Option Builtin
 builtin_named name = first_named name builtins

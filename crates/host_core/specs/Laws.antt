@@ -1,10 +1,16 @@
 -- What holds of every step, and of every run of a machine.
-use Rattle.std.specs.Prelude.{◌≡◌, ◌<◌, ◌≤◌, ⊤, ℕ, false, List, [], ◌++◌, length, Option, Some, None, Err}
+use Rattle.std.specs.Prelude.{◌≡◌, ◌<◌, ◌≤◌, ⊤, ℕ, Bool, false, List, [], ◌++◌, length, max, Option, Some, None, Ok, Err}
+use Rattle.std.specs.List.{AllByRecursion}
 use Rattle.core_types.specs.Done.{word}
-use Rattle.core_types.specs.Keys.{Keys}
+use Rattle.core_types.specs.Keys.{Keys, Native}
+use Rattle.core_types.specs.Keyspace.{IsKeyspace}
 use Rattle.core_types.specs.declared.effect.Effect.{Effect}
 use Rattle.core_types.specs.declared.event.Event.{Event}
+use Rattle.core_types.specs.declared.event.Event.TheVariants as event
 use Rattle.effect_log.specs.Refusal.{Refusal}
+use Rattle.effect_log.specs.Replay.{replayed}
+use Rattle.effect_log.specs.Unit.{IsLoggable}
+use Rattle.key_store.specs.NextDue.{next_due}
 use Rattle.client_book.specs.Client.{passes}
 use Rattle.client_book.specs.declared.client.Client.{Client}
 use Rattle.host_core.specs.declared.builtin.Builtin.{Builtin}
@@ -56,6 +62,21 @@ pub record CanTake (client count : ℕ) (state : State) : Type 0 where
   pub record_there : Client
   pub there : client_at state.clients client ≡ Some record_there
   pub enough : count ≤ length record_there.told
+
+-- after a step the keys are such as they may be, and a log can hold each of its changes
+pub record KeepsLimits (allowed : Native → Bool) (state : State) (event : Event) : Type 0 where
+  pub keys : IsKeyspace allowed (step state event).state.keys
+  pub effects : AllByRecursion IsLoggable (step state event).effects
+
+-- the changes of a step, in order, make its keys of the keys before it
+abbrev pub RemakesKeys : State → Event → Type 0
+RemakesKeys state event =
+    replayed replay state.keys (step state event).effects ≡ Ok (step state event).state.keys
+
+-- once the clock has shown a moment, no key is due at it, nor at one that it showed before
+abbrev pub LeavesNoneDue : State → ℕ → Type 0
+LeavesNoneDue state shown =
+    next_due (step state (event.Tick shown)).state.keys (max state.moment shown) ≡ None
 
 -- each command is found by its name
 abbrev pub AllAreKnown : Type 0

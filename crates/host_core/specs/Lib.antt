@@ -8,3 +8,5 @@ pub mod Events
 pub mod Replay
 pub mod Fold
 pub mod Laws
+pub mod Core
+pub mod inner

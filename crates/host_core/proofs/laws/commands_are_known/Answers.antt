@@ -1,7 +1,7 @@
 -- Serves clauses found, listed and count of commands_are_known.
 use Rattle.std.proofs.Common.{refl}
 use Rattle.host_core.specs.Builtins.{known_commands}
-use Rattle.host_core.proofs.Names.{found}
+use Rattle.host_core.proofs.BuiltinNames.{found}
 use Rattle.host_core.proofs.laws.commands_are_known.Goals as goal
 
 pub returns-clause-found : goal.returns-clause-found

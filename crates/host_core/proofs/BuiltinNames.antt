@@ -11,6 +11,7 @@ use Rattle.host_core.specs.declared.connection.ConnectionCmd.TheVariants as conn
 use Rattle.host_core.specs.Builtins.{builtin_named, builtin_row}
 
 pub found : (cmd : Builtin) → builtin_named (builtin_row cmd).name ≡ Some cmd
+unfolding builtin_named
 found (builtin.Connection connection.Ping) = refl
 found (builtin.Connection connection.Echo) = refl
 found (builtin.Connection connection.Select) = refl
