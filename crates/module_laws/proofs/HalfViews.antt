@@ -1,13 +1,12 @@
 -- What the halves of a set see. Serves the clauses of the calls of Left and Right.
 use Rattle.std.proofs.Common.{◌≡◌, ℕ, List, ◌++◌, Bool, true, false, Option, Some, None, refl, sym, ap, subst, ◌∙◌, if◌then◌else◌}
-use Rattle.std.specs.Prelude.{unwrap_or, Result, Ok, Err, IfOk, IfErr, OnErr}
+use Rattle.std.specs.Prelude.{Result, Ok, Err, IfOk, IfErr, OnErr}
 use Rattle.std.specs.Option.{option_map, option_and_then}
 use Rattle.std.specs.Cmp.Lexicographic.{bytes_decides}
 use Rattle.std.specs.Str.{bytes_eq}
 use Rattle.std.proofs.lemmas.Option.{none-some, same_Some}
 use Rattle.core_types.proofs.KeyLemmas.{entry_at-with_entry, same_keys}
-use Rattle.core_types.specs.Keys.{Entry, Keys, Native, entry_at, deadline_at, value_at, with_changed, with_entry}
-use Rattle.core_types.specs.declared.value.Value.{Value}
+use Rattle.core_types.specs.Keys.{Entry, Keys, Native, entry_at, deadline_at, value_at, with_changed}
 use Rattle.core_types.specs.declared.value.Value.TheVariants as value
 use Rattle.core_types.specs.declared.value.Kind.{Kind}
 use Rattle.core_types.specs.declared.value.Kind.TheVariants as kind
@@ -20,7 +19,7 @@ use Rattle.module_laws.specs.declared.context.MutFault.TheVariants as mut_fault
 use Rattle.module_laws.specs.Sides.{native_of}
 use Rattle.module_laws.specs.Told.{Told, kind_of, kind_at, IsForeign, HasFault, MayFail, fault_of, with_native}
 use Rattle.module_laws.specs.Types.{NativeType, has_type, are_apart}
-use Rattle.module_laws.specs.inner.HalfTypes.{typed_left, typed_right, foreign_both, foreign_first, foreign_second}
+use Rattle.module_laws.specs.inner.HalfTypes.{foreign_both, foreign_first, foreign_second}
 
 -- a kind that is of neither half is none of the first, and none of the second
 foreign_left : (types others : List NativeType) (other : Kind) → IsForeign (types ++ others) other → IsForeign types other

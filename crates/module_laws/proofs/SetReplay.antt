@@ -1,35 +1,24 @@
 -- What replaying makes where all modules of a set are known. Serves the law effects_make_the_keys.
-use Rattle.std.proofs.Common.{◌≡◌, ℕ, suc, zero, ◌+◌, ◌<◌, List, [], ◌∷◌, Bool, true, false, Option, Some, None, refl, sym, ap, subst, ◌∙◌, true≢false, arith, if◌then◌else◌, ⊎_elim}
-use Rattle.std.specs.Prelude.{◌||◌, ◌⊎◌, find}
+use Rattle.std.proofs.Common.{◌≡◌, ℕ, suc, zero, ◌<◌, List, [], ◌∷◌, Bool, true, false, Option, Some, None, refl, sym, ap, ◌∙◌, true≢false, arith, if◌then◌else◌}
+use Rattle.std.specs.Prelude.{◌||◌}
 use Rattle.std.specs.Option.{option_and_then}
-use Rattle.std.specs.List.{AllByRecursion, list_any}
+use Rattle.std.specs.List.{list_any}
 use Rattle.std.specs.Str.{bytes_eq}
-use Rattle.std.specs.Cmp.Lexicographic.{bytes_decides}
 use Rattle.std.proofs.lemmas.Option.{none-some, same_Some}
 use Rattle.core_types.specs.CommandRow.{CommandRow}
 use Rattle.core_types.specs.Keys.{Keys, Native}
 use Rattle.core_types.specs.declared.effect.Effect.{Effect}
-use Rattle.module_laws.specs.Laws.{IsCommand, IsDone, IsSound, EffectsMakeTheKeys}
-use Rattle.module_laws.specs.Meaning.{Did, Meaning, type_of}
-use Rattle.module_laws.specs.Replay.{AreFaithful, Owned, command_name, has_dot, owned_by, owner_of, replayed, replayed_all, replayed_by, row_named}
+use Rattle.module_laws.specs.Laws.{IsDone, EffectsMakeTheKeys}
+use Rattle.module_laws.specs.Meaning.{Did, Meaning}
+use Rattle.module_laws.specs.Replay.{AreFaithful, command_name, owned_by, owner_of, replayed, replayed_all, replayed_by, row_named}
 use Rattle.module_laws.specs.Sets.{Modules, listed, has_row, AreApart, AreLawful}
 use Rattle.module_laws.specs.Told.{Builtins, Seen}
 use Rattle.module_laws.specs.Words.{Bytes}
+use Rattle.module_laws.specs.inner.Rows.{found_named, not_own}
 
 or_false : (a b : Bool) → (a || b) ≡ false → (a ≡ false) × (b ≡ false)
 or_false true b e = absurd (true≢false e)
 or_false false b e = (refl, e)
-
-named_case : (b : Bool) (r row : CommandRow) (rows : List CommandRow) (name : Bytes) → bytes_eq r.name name ≡ b → (row_named name rows ≡ Some row → row.name ≡ name) → (if b then Some r else row_named name rows) ≡ Some row → row.name ≡ name
-named_case true r row rows name same rest found =
-    ap (λ x. x.name) (sym (same_Some r row found)) ∙ (bytes_decides r.name name).0 same
-named_case false r row rows name same rest found = rest found
-
--- a row that is found has the name that was looked for
-found_named : (rows : List CommandRow) (name : Bytes) (row : CommandRow) → row_named name rows ≡ Some row → row.name ≡ name
-found_named [] name row found = absurd (none-some row found)
-found_named (r ∷ rows) name row found =
-    named_case (bytes_eq r.name name) r row rows name refl (found_named rows name row) found
 
 has_case : (b : Bool) (r row : CommandRow) (rows : List CommandRow) (name : Bytes) → (row_named name rows ≡ Some row → has_row rows name ≡ true) → (if b then Some r else row_named name rows) ≡ Some row → (b || has_row rows name) ≡ true
 has_case true r row rows name rest found = refl
@@ -50,15 +39,6 @@ found_fails t [] name row none found = absurd (none-some row found)
 found_fails t (r ∷ rows) name row none found =
     let both = or_false (t r) (list_any t rows) none in
     fails_case (bytes_eq r.name name) t r row rows name both.0 (found_fails t rows name row both.1) found
-
-holds_case : (b : Bool) (r row : CommandRow) (rows : List CommandRow) (name : Bytes) → IsCommand r → (row_named name rows ≡ Some row → IsCommand row) → (if b then Some r else row_named name rows) ≡ Some row → IsCommand row
-holds_case true r row rows name first rest found = subst IsCommand (same_Some r row found) first
-holds_case false r row rows name first rest found = rest found
-
-found_command : (rows : List CommandRow) (name : Bytes) (row : CommandRow) → AllByRecursion IsCommand rows → row_named name rows ≡ Some row → IsCommand row
-found_command [] name row each found = absurd (none-some row found)
-found_command (r ∷ rows) name row each found =
-    holds_case (bytes_eq r.name name) r row rows name each.0 (found_command rows name row each.1) found
 
 none_case : (o : Option CommandRow) (first second : Meaning) (name : Bytes) (row : CommandRow) → AreApart first second → row_named name second.rows ≡ Some row → row_named name first.rows ≡ o → o ≡ None
 none_case None first second name row apart found is = refl
@@ -89,20 +69,12 @@ owned_by_none (suc n) f name none =
     ∙ owned_by_none n (λ q. f (suc q)) name (λ q below. none (suc q) (omega (arith, below)))
 
 module _ (builtins : Builtins) (faithful : AreFaithful builtins) (modules : Modules) (lawful : AreLawful modules) (place : ℕ) (within : place < modules.size) where
-  plain_case : (o : Option CommandRow) (q : ℕ) (keys made : Keys) (effect : Effect) → q < modules.size → builtins.replays keys effect ≡ Some made → row_named (command_name effect.words) (modules.meaning_at q).rows ≡ o → o ≡ None
-  plain_case None q keys made effect there replays is = refl
-  plain_case (Some row) q keys made effect there replays is =
-      let name = command_name effect.words in
-      let command = found_command (modules.meaning_at q).rows name row (lawful.each q there).commands.each is in
-      let dotted : has_dot name ≡ true = ap has_dot (sym (found_named (modules.meaning_at q).rows name row is)) ∙ command.dotted in
-      absurd (none-some made (sym (faithful.dotless keys effect dotted) ∙ replays))
-
   replayed_case : (o : Option CommandRow) (keys made : Keys) (effect : Effect) → row_named (command_name effect.words) (modules.meaning_at place).rows ≡ o
       → replayed_by builtins keys effect (owned_by (modules.meaning_at place) o None) ≡ Some made → replayed builtins (listed modules.size modules.meaning_at) keys effect ≡ Some made
   replayed_case (Some row) keys made effect is replays =
       ap (replayed_by builtins keys effect) (owned_at modules.size modules.meaning_at place (command_name effect.words) row within is (λ q below. not_first (modules.meaning_at q) (modules.meaning_at place) (command_name effect.words) row (lawful.apart q place below within) is)) ∙ replays
   replayed_case None keys made effect is replays =
-      ap (replayed_by builtins keys effect) (owned_by_none modules.size modules.meaning_at (command_name effect.words) (λ q there. plain_case (row_named (command_name effect.words) (modules.meaning_at q).rows) q keys made effect there replays refl)) ∙ replays
+      ap (replayed_by builtins keys effect) (owned_by_none modules.size modules.meaning_at (command_name effect.words) (λ q there. not_own builtins faithful (modules.meaning_at q).rows (lawful.each q there).commands.each keys made effect replays (row_named (command_name effect.words) (modules.meaning_at q).rows) refl)) ∙ replays
 
   -- an effect that makes something where one module is known makes the same where all are
   replayed_in : (keys made : Keys) (effect : Effect) → replayed builtins (modules.meaning_at place ∷ []) keys effect ≡ Some made → replayed builtins (listed modules.size modules.meaning_at) keys effect ≡ Some made

@@ -1,5 +1,5 @@
 -- What applying an effect to a value leaves.
-use Rattle.std.specs.Prelude.{◌≡◌, ℕ, ◌-◌, ◌^◌, Option, Some, None, Result, Err, IfOk, IfErr, OnErr}
+use Rattle.std.specs.Prelude.{◌≡◌, ℕ, ◌-◌, ◌^◌, Option, Some, None, Result, IfOk, IfErr, OnErr}
 use Rattle.std.specs.Option.{option_map}
 use Rattle.core_types.specs.Keys.{Native}
 use Rattle.core_types.specs.declared.stop.Stop.TheVariants as stop

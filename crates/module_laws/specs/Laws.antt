@@ -1,17 +1,15 @@
 -- The laws that a module's meaning obeys.
-use Rattle.std.specs.Prelude.{◌≡◌, ⊤, ℕ, ◌<◌, ◌≤◌, Bool, true, false, List, [], ◌∷◌, map, length, slice_get, Option, Some, None, Ok, is_some}
+use Rattle.std.specs.Prelude.{◌≡◌, ⊤, ℕ, ◌<◌, ◌≤◌, Bool, true, List, [], ◌∷◌, map, length, Option, Some, None, Ok}
 use Rattle.std.specs.Char.{to_ascii_uppercase}
-use Rattle.std.specs.List.{AllByRecursion, IsDistinct, list_any, list_all}
-use Rattle.std.specs.Option.{option_and_then}
+use Rattle.std.specs.List.{AllByRecursion, IsDistinct, list_all}
 use Rattle.std.specs.Str.{bytes_eq}
 use Rattle.core_types.specs.CommandRow.{CommandRow, MeetArity}
 use Rattle.core_types.specs.Keys.{Native}
 use Rattle.core_types.specs.Keyspace.{IsString, IsKeyspace}
-use Rattle.core_types.specs.declared.effect.Effect.{Effect}
 use Rattle.core_types.specs.declared.note.Note.{Note}
 use Rattle.type_ids.specs.Name.{IsTypeName}
 use Rattle.module_laws.specs.Limits.{IsWithinLimits, IsSmallEffect}
-use Rattle.module_laws.specs.Meaning.{Did, Heard, Meaning, type_of}
+use Rattle.module_laws.specs.Meaning.{Did, Meaning, type_of}
 use Rattle.module_laws.specs.Replay.{AreFaithful, command_name, has_dot, row_named, replayed_all}
 use Rattle.module_laws.specs.Told.{Seen}
 use Rattle.module_laws.specs.Types.{NativeType, has_type, is_full, is_kept, is_short}

@@ -1,5 +1,5 @@
 -- What loading a saved value leaves.
-use Rattle.std.specs.Prelude.{◌≡◌, ℕ, ◌+◌, ◌-◌, ◌^◌, Result, Ok, Err, IfOk, IfErr, OnOk, OnErr}
+use Rattle.std.specs.Prelude.{◌≡◌, ◌+◌, ◌-◌, ◌^◌, Result, Ok, Err, IfOk, IfErr, OnOk, OnErr}
 use Rattle.core_types.specs.Keys.{Native}
 use Rattle.core_types.specs.declared.load_fault.LoadFault.{LoadFault}
 use Rattle.core_types.specs.declared.stop.Stop.TheVariants as stop

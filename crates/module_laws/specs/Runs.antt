@@ -1,20 +1,14 @@
 -- What a call of a module leaves.
-use Rattle.std.specs.Prelude.{◌≡◌, ◌⊎◌, ⊤, ℕ, ◌+◌, ◌-◌, ◌<◌, ◌≤◌, ◌^◌, Bool, true, false, List, [], ◌∷◌, ◌++◌, length, replicate, slice_get, Option, Some, None, Result, Ok, Err, IfOk}
-use Rattle.std.specs.List.{AllByRecursion}
-use Rattle.std.specs.Option.{option_and_then}
-use Rattle.core_types.specs.CommandRow.{CommandRow}
+use Rattle.std.specs.Prelude.{◌≡◌, ◌⊎◌, ℕ, ◌+◌, ◌-◌, ◌≤◌, ◌^◌, Bool, false, [], ◌∷◌, ◌++◌, replicate, Result, Err, IfOk}
 use Rattle.core_types.specs.Keys.{Native}
 use Rattle.core_types.specs.Keyspace.{IsKeyspace}
-use Rattle.core_types.specs.declared.effect.Effect.{Effect}
 use Rattle.core_types.specs.declared.stop.Stop.{Stop}
 use Rattle.core_types.specs.declared.stop.Stop.TheVariants as stop
 use Rattle.module_laws.specs.Laws.{IsSound}
-use Rattle.module_laws.specs.Limits.{IsSmallEffect}
-use Rattle.module_laws.specs.Meaning.{Did, Meaning, type_of}
-use Rattle.module_laws.specs.Replay.{command_name, row_named}
+use Rattle.module_laws.specs.Meaning.{Did}
 use Rattle.module_laws.specs.Told.{Seen, Told}
 use Rattle.module_laws.specs.Types.{NativeType}
-use Rattle.module_laws.specs.Words.{Bytes, Words, Saved}
+use Rattle.module_laws.specs.Words.{Bytes, Saved}
 
 -- a module's state: its private state, and how many values it has made and freed
 pub record State : Type 0 where

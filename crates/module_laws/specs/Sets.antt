@@ -1,7 +1,6 @@
 -- Sets of modules, by their places.
-use Rattle.std.specs.Prelude.{◌≡◌, ◌≢◌, ℕ, suc, zero, ◌+◌, ◌-◌, ◌<◌, ◌≤◌, min, Bool, false, nat_lt, List, [], ◌∷◌, map, length, sum_by, position, Option, Some, None, is_some, if◌then◌else◌}
+use Rattle.std.specs.Prelude.{◌≡◌, ◌≢◌, ℕ, suc, zero, ◌+◌, ◌-◌, ◌<◌, ◌≤◌, min, Bool, false, nat_lt, List, [], ◌∷◌, length, sum_by, position, Option, is_some, if◌then◌else◌}
 use Rattle.std.specs.List.{list_any}
-use Rattle.std.specs.Option.{option_map}
 use Rattle.std.specs.Str.{bytes_eq}
 use Rattle.core_types.specs.CommandRow.{CommandRow}
 use Rattle.module_laws.specs.Laws.{IsLawful}

@@ -1,5 +1,5 @@
 -- Values of two halves.
-use Rattle.std.specs.Prelude.{⊤, ℕ, ◌+◌, Option, Some, None, Result, Ok, Err}
+use Rattle.std.specs.Prelude.{⊤, ℕ, ◌+◌, Option, Some, Result, Ok, Err}
 use Rattle.std.specs.Option.{option_map}
 use Rattle.core_types.specs.Keys.{Native}
 use Rattle.module_laws.specs.declared.either.Either.{Either}

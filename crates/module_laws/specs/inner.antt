@@ -1,4 +1,9 @@
 pub mod HalfTypes
 pub mod OneSet
 pub mod TwoSets
+pub mod Rows
+pub mod Plain
 pub mod Least
+pub mod Counter
+pub mod CounterLaws
+pub mod Shelf

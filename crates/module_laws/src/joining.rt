@@ -1,9 +1,9 @@
 //! Whether two sets can be one.
 
-ghost use Rattle.std.specs.Prelude.{◌≡◌, ◌≤◌, ◌↔◌, map, true, false, IsTrue, IfNone, IfSome, MatchOption, MatchBool};
+ghost use Rattle.std.specs.Prelude.{◌≡◌, ◌≤◌, map, true, false, IfNone, IfSome, MatchOption, MatchBool};
 ghost use Rattle.std.specs.List.{list_any};
 ghost use Rattle.core_types.specs.CommandRow.{row_of_spec};
-ghost use Rattle.module_laws.specs.Joining.{NoNameTaken, NoCommandTaken, AreTooMany, IsFirstTaken, HasTaken, IsJoinFault, CanJoin};
+ghost use Rattle.module_laws.specs.Joining.{NoNameTaken, NoCommandTaken, IsFirstTaken, HasTaken, IsJoinFault, CanJoin};
 ghost use Rattle.module_laws.specs.Sets.{has_row, has_command, command_count};
 
 use crate::module_set::ModuleSet;

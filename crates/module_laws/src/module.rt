@@ -1,6 +1,6 @@
 //! A module: a type of values, its commands, and what it does when it is told or asked something.
 
-ghost use Rattle.std.specs.Prelude.{◌≡◌, ◌<◌, ◌+◌, ℕ, List, [], ◌∷◌, true, map, Ok, IfOk, OnOk, OnErr, IsSome};
+ghost use Rattle.std.specs.Prelude.{◌≡◌, ◌<◌, ℕ, List, [], ◌∷◌, true, map, Ok, IfOk, IsSome};
 ghost use Rattle.std.specs.List.{list_all};
 ghost use Rattle.core_types.specs.CommandRow.{row_of_spec};
 ghost use Rattle.core_types.specs.Keyspace.{IsString};

@@ -75,14 +75,17 @@ impl<A: ModuleSet, B: ModuleSet> ModuleSet for Two<A, B> {
 
     ghost owner_of = { place_of_half A.modules.size A.owner_of B.owner_of };
 
-    ghost owned = { owned_by_half A.modules B.modules A.owner_of B.owner_of A.Value.native B.Value.native A.owned B.owned };
+    ghost owned = { owned_by_half A.modules B.modules A.owner_of B.owner_of
+        A.Value.native B.Value.native A.owned B.owned };
 
-    ghost types_are = { types_joined A.modules B.modules A.Value.types B.Value.types A.types_are B.types_are };
+    ghost types_are = { types_joined A.modules B.modules A.Value.types B.Value.types
+        A.types_are B.types_are };
 
     ghost lawful = { λ set. two_lawful A.modules B.modules (A.lawful set.a)
         (B.lawful set.b) set.names set.commands set.few };
 
-    ghost reads_back = { half_reads_back A.modules B.modules A.owner_of B.owner_of A.Value.native B.Value.native A.owned A.reads_back B.reads_back };
+    ghost reads_back = { half_reads_back A.modules B.modules A.owner_of B.owner_of
+        A.Value.native B.Value.native A.owned A.reads_back B.reads_back };
 
     fn count() -> u16 {
         A::count().saturating_add(B::count())

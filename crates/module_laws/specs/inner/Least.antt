@@ -1,9 +1,9 @@
 -- The least module: one command, which answers 1 and changes nothing, and no value that a key may
 -- have.
-use Rattle.std.specs.Prelude.{◌≡◌, ℕ, suc, zero, pos, true, false, List, [], ◌∷◌, None, Result, Ok, Err, refl, codes}
+use Rattle.std.specs.Prelude.{◌≡◌, ℕ, suc, zero, pos, true, false, [], ◌∷◌, None, Result, Ok, Err, refl, codes}
 use Rattle.std.proofs.Common.{sym, ap, subst, true≢false, arith}
 use Rattle.std.specs.Result.{is_err, result_unwrap_or}
-use Rattle.std.specs.Cmp.Lexicographic.{bytes_decides, slice_cmp}
+use Rattle.std.specs.Cmp.Lexicographic.{bytes_decides}
 use Rattle.std.specs.List.{IsDistinct, list_all}
 use Rattle.std.proofs.lemmas.Option.{none-some}
 use Rattle.core_types.specs.CommandRow.{CommandRow}
@@ -12,21 +12,11 @@ use Rattle.core_types.specs.declared.load_fault.LoadFault.TheVariants as load_fa
 use Rattle.core_types.specs.declared.reply.Reply.TheVariants as reply
 use Rattle.type_ids.proofs.Names.{named-found}
 use Rattle.module_laws.specs.Laws.{IsCall, IsLawful}
-use Rattle.module_laws.specs.Meaning.{Did, Meaning}
-use Rattle.std.specs.FinMap.{get-empty}
-use Rattle.std.specs.Ordering.{nat_cmp}
-use Rattle.std.specs.Option.{option_map}
-use Rattle.core_types.specs.Keys.{no_keys}
-use Rattle.module_laws.specs.Told.{Builtins, Seen, Told, kind_at, kind_of}
-use Rattle.module_laws.specs.Runs.{State}
+use Rattle.module_laws.specs.Meaning.{Meaning}
 use Rattle.module_laws.specs.Types.{is_short}
 use Rattle.module_laws.specs.Words.{Bytes, Words, Saved}
 use Rattle.module_laws.specs.declared.verdict.Verdict.TheVariants as verdict
-
--- an answer, and nothing else
-abbrev pub answers_only : {A : Type 0} → A → Seen → Did A
-answers_only answer seen =
-    record { answer = answer; private = []; keys = seen.keys; effects = []; notes = [] }
+use Rattle.module_laws.specs.inner.Plain.{answers_only}
 
 abbrev pub least_loads : Saved → ℕ → Result Saved LoadFault
 least_loads items (suc version) = Err (load_fault.Version (suc version))
@@ -108,31 +98,6 @@ least_lawful = record {
     chores = λ private note. tt;
   };
 }
-
--- no built-in commands
-abbrev pub no_builtins : Builtins
-no_builtins = record {
-  calls = λ keys moment words. record { reply = reply.Null; keys = keys; effects = []; notes = [] };
-  replays = λ keys effect. None;
-}
-
--- what a context without keys tells
-abbrev pub bare_told : ℕ → Told
-bare_told moment = record {
-  seen = record { builtins = no_builtins; keys = no_keys; moment = moment };
-  effects = [];
-  notes = [];
-  added = [];
-  has_serial = false;
-}
-
-pub no_kind : (key : Bytes) → kind_at no_keys key ≡ None
-no_kind key = ap (λ o. option_map kind_of (option_map (λ entry. entry.value) o))
-    (get-empty (slice_cmp nat_cmp) key)
-
--- what its state is, after so many values
-abbrev pub least_state : ℕ → ℕ → State
-least_state made freed = record { private = []; made = made; freed = freed }
 
 -- the words of its command
 pub pinging : (words : Words) → words ≡ codes "LEAST.PING" ∷ [] → IsCall least.rows words

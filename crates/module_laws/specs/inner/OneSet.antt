@@ -1,12 +1,11 @@
 -- What holds of a set of one module. Serves the laws of ModuleSet for One.
-use Rattle.std.proofs.Common.{◌≡◌, ℕ, suc, zero, ◌<◌, ◌≤◌, List, [], ◌∷◌, Bool, true, false, refl, sym, ap, subst, ◌∙◌, true≢false, arith, if◌then◌else◌}
+use Rattle.std.proofs.Common.{◌≡◌, ℕ, ◌<◌, List, [], ◌∷◌, Bool, true, false, refl, sym, ap, ◌∙◌, arith}
 use Rattle.std.specs.Prelude.{◌||◌}
 use Rattle.std.specs.Cmp.Lexicographic.{bytes_decides}
-use Rattle.std.specs.Str.{bytes_eq}
 use Rattle.core_types.specs.Keys.{Native}
 use Rattle.module_laws.specs.Laws.{IsLawful}
 use Rattle.module_laws.specs.Meaning.{Meaning, type_of}
-use Rattle.module_laws.specs.Sets.{Modules, only, IsOwnValue, AreLawful, AreApart}
+use Rattle.module_laws.specs.Sets.{only, IsOwnValue, AreLawful}
 use Rattle.module_laws.specs.Types.{NativeType, has_type}
 
 or_none : (b : Bool) → (b || false) ≡ true → b ≡ true

@@ -1,7 +1,7 @@
 -- What holds of two sets that are joined. Serves the laws of ModuleSet for Two, and the clauses of
 -- its calls.
-use Rattle.std.proofs.Common.{◌≡◌, ◌≢◌, ℕ, suc, zero, ◌+◌, ◌-◌, ◌<◌, ◌≤◌, List, [], ◌∷◌, ◌++◌, Bool, true, false, Option, Some, None, refl, sym, ap, subst, ◌∙◌, true≢false, arith, if◌then◌else◌, ⊎_elim, map, length}
-use Rattle.std.specs.Prelude.{◌||◌, ◌⊎◌, nat_lt, position, is_some, Ok, not, min}
+use Rattle.std.proofs.Common.{◌≡◌, ℕ, suc, zero, ◌+◌, ◌-◌, ◌<◌, ◌≤◌, List, [], ◌∷◌, ◌++◌, Bool, true, false, Option, Some, None, refl, sym, ap, subst, ◌∙◌, true≢false, arith, if◌then◌else◌, ⊎_elim, length}
+use Rattle.std.specs.Prelude.{◌||◌, is_some, Ok, not}
 use Rattle.std.specs.Option.{option_map, option_or}
 use Rattle.std.proofs.lemmas.Iterator.Adapters.{position_from-zero}
 use Rattle.std.specs.List.{list_any, position_from}
@@ -10,12 +10,11 @@ use Rattle.std.specs.Cmp.Lexicographic.{bytes_decides}
 use Rattle.std.proofs.lemmas.Bool.{cases_lt, cond_below, cond_above}
 use Rattle.std.proofs.Math.Nat.{zero-add, suc-add}
 use Rattle.std.proofs.lemmas.Option.{none-some, same_Some}
-use Rattle.core_types.specs.CommandRow.{CommandRow}
 use Rattle.core_types.specs.Keys.{Native}
 use Rattle.module_laws.specs.Laws.{IsLawful}
 use Rattle.module_laws.specs.Meaning.{Meaning, type_of}
 use Rattle.module_laws.specs.Runs.{State}
-use Rattle.module_laws.specs.Sets.{Modules, held, by_half, joined, listed, types_of, IsOwnValue, SameBut, place_in, has_name, has_row, has_command, shares_command, AreApart, AreLawful}
+use Rattle.module_laws.specs.Sets.{Modules, held, by_half, joined, listed, types_of, IsOwnValue, SameBut, place_in, has_name, has_row, shares_command, AreApart, AreLawful}
 use Rattle.module_laws.specs.Sides.{native_of, place_of_half}
 use Rattle.module_laws.specs.Types.{NativeType, has_type, are_apart}
 use Rattle.module_laws.specs.declared.either.Either.{Either}

@@ -3,7 +3,8 @@
 ghost use Rattle.std.specs.Prelude.{◌≡◌, refl, [], ◌∷◌, None};
 ghost use Rattle.module_laws.specs.Applying.{Applies};
 ghost use Rattle.module_laws.specs.Meaning.{type_of};
-ghost use Rattle.module_laws.specs.inner.Least.{least, least_lawful, least_name, least_state};
+ghost use Rattle.module_laws.specs.inner.Least.{least, least_lawful, least_name};
+ghost use Rattle.module_laws.specs.inner.Plain.{plain_state};
 
 use crate::{ApplyStop, Context, LoadStop, Module, Verdict, Viewed};
 use core_types::{
@@ -58,7 +59,7 @@ impl Module for Least {
 
     ghost meaning = { least };
 
-    ghost state = { λ l. least_state l.made l.freed };
+    ghost state = { λ l. plain_state l.made l.freed };
 
     ghost named = { (refl, refl) };
 
@@ -88,7 +89,7 @@ impl Module for Least {
         _words: &Args,
     ) -> Result<Option<Mark>, ApplyStop<Mark>>
         ensures applies { Applies None (λ mark. record { name = least_name; items = [] }) old result
-            (least_state self.old.made self.old.freed) (least_state self.new.made self.new.freed) }
+            (plain_state self.old.made self.old.freed) (plain_state self.new.made self.new.freed) }
     {
         Err(ApplyStop::Bad(old))
     }

@@ -1,4 +1,4 @@
-use Rattle.std.proofs.Common.{◌≡◌, ◌<◌, ℕ, true, sym, ap, ◌∙◌, arith}
+use Rattle.std.proofs.Common.{◌≡◌, ◌<◌, true, sym, ap, ◌∙◌, arith}
 use Rattle.module_laws.specs.Sets.{Modules, has_row}
 use Rattle.module_laws.specs.inner.TwoSets.{none_listed}
 use Rattle.module_laws.proofs.Counting.{any_at}

@@ -1,7 +1,7 @@
-use Rattle.std.proofs.Common.{◌≡◌, ◌<◌, ℕ, true, false, sym, ap, ◌∙◌, arith}
+use Rattle.std.proofs.Common.{sym, ap, ◌∙◌, arith}
 use Rattle.std.proofs.Common.{below_more}
 use Rattle.std.specs.List.{list_any}
-use Rattle.module_laws.specs.Sets.{Modules, has_command, shares_command}
+use Rattle.module_laws.specs.Sets.{Modules, has_command}
 use Rattle.module_laws.proofs.joining.takes_command.Goals as goal
 
 pub returns-then-shares : goal.returns-then-shares

@@ -1,4 +1,4 @@
-use Rattle.std.proofs.Common.{◌≡◌, ◌∷◌, refl, ap, ◌∙◌}
+use Rattle.std.proofs.Common.{◌∷◌, refl, ap, ◌∙◌}
 use Rattle.std.specs.Result.{IsOk}
 use Rattle.module_laws.specs.declared.either.Either.TheVariants as either
 use Rattle.module_laws.proofs.HalfViews.{right_fails, right_shown, lent_unchanged, on_err}
