@@ -1,17 +1,17 @@
 -- Serves the clause `cut` of `log_goes_on`: a torn unit of which less is there is a torn one, or none.
-use Rattle.std.proofs.Common.{◌≡◌, ◌⊎◌, ℕ, ◌+◌, ◌-◌, ◌<◌, ◌≤◌, Bool, true, false, List, [], ◌∷◌, ◌++◌, length, take, drop, refl, sym, ap, subst, ◌∙◌, append_assoc, arith, inl, inr}
+use Rattle.std.proofs.Common.{◌≡◌, ◌⊎◌, ℕ, ◌+◌, ◌-◌, ◌<◌, ◌≤◌, true, false, List, [], ◌∷◌, ◌++◌, length, take, drop, refl, sym, ap, subst, ◌∙◌, append_assoc, arith, inl, inr}
 use Rattle.std.specs.List.{AllByRecursion}
-use Rattle.std.proofs.lemmas.List.{length-append, length-take-le, take-append-drop}
+use Rattle.std.proofs.lemmas.List.{length-append, take-append-drop}
 use Rattle.std.proofs.Math.Seq.{take-append-add}
 use Rattle.core_types.specs.Keys.{Keys}
 use Rattle.core_types.specs.declared.bad_request.BadRequest.{BadRequest}
 use Rattle.resp_codec.specs.Inline.{begins_array}
 use Rattle.resp_codec.specs.Spelling.{multibulk}
-use Rattle.resp_codec.specs.Array.{BeginsRequest, BeginsEmpty, IsBadArray}
+use Rattle.resp_codec.specs.Array.{BeginsRequest, IsBadArray}
 use Rattle.resp_codec.proofs.OneReading.{fault_stays}
 use Rattle.effect_log.specs.declared.reason.Reason.{Reason}
 use Rattle.effect_log.specs.declared.reason.Reason.TheVariants as reason
-use Rattle.effect_log.specs.Log.{Unit, unit_bytes, units_bytes, IsUnit, IsTorn, IsNoArray, BeginsNamed, FaultAt, HoldsUnits, BreaksAt}
+use Rattle.effect_log.specs.Log.{Unit, units_bytes, IsUnit, IsTorn, IsNoArray, BeginsNamed, FaultAt, HoldsUnits}
 use Rattle.effect_log.specs.Replay.{Meaning, Holds}
 use Rattle.effect_log.proofs.OneLog.{IsReadable, readable, holds_unbroken}
 use Rattle.effect_log.proofs.OneReplay.{HasUnits, has_one, has_behind}

@@ -2,7 +2,7 @@ ghost use Rattle.std.specs.Prelude.{◌<◌, length, IfOk};
 ghost use Rattle.effect_log.specs.Unit.{IsLoggable};
 
 use crate::unit_text;
-use core_types::{Blob, Effect, Effects, NoMemory, Sequence};
+use core_types::{Blob, Effect, NoMemory, Sequence};
 use std::alloc::Global;
 use std::test::Fail;
 
@@ -17,28 +17,32 @@ fn removal(alloc: Global, key: &[u8]) -> Result<Effect, NoMemory>
     Ok(Effect { words })
 }
 
-// No effect, one and three.
-#[test]
-fn ample(rt: HostRuntime) -> Result<(), Fail> {
-    let alloc = rt.alloc();
-    let mut effects: Effects = Sequence::new(alloc);
-    assert!(rt; unit_text(alloc, &effects)?.is_empty());
-
+// The unit of one effect.
+fn unit_of_one(alloc: Global) -> Result<Blob, NoMemory> {
+    let mut effects = Sequence::new(alloc);
     effects.push(removal(alloc, b"a\r\n")?)?;
-    let one = unit_text(alloc, &effects)?;
-    assert_eq!(rt;
-        one.as_slice(),
-        b"*2\r\n$3\r\nDEL\r\n$3\r\na\r\n\r\n".as_slice()
-    );
+    unit_text(alloc, &effects)
+}
 
+// The unit of two effects.
+fn unit_of_two(alloc: Global) -> Result<Blob, NoMemory> {
+    let mut effects = Sequence::new(alloc);
     effects.push(removal(alloc, b"")?)?;
     effects.push(removal(alloc, b"key")?)?;
-    let three = unit_text(alloc, &effects)?;
-    let text = b"*1\r\n$5\r\nMULTI\r\n\
-        *2\r\n$3\r\nDEL\r\n$3\r\na\r\n\r\n\
-        *2\r\n$3\r\nDEL\r\n$0\r\n\r\n\
-        *2\r\n$3\r\nDEL\r\n$3\r\nkey\r\n\
-        *1\r\n$4\r\nEXEC\r\n";
-    assert_eq!(rt; three.as_slice(), text.as_slice());
+    unit_text(alloc, &effects)
+}
+
+const ONE: &[u8] = b"*2\r\n$3\r\nDEL\r\n$3\r\na\r\n\r\n";
+
+const TWO: &[u8] = b"*1\r\n$5\r\nMULTI\r\n\
+    *2\r\n$3\r\nDEL\r\n$0\r\n\r\n\
+    *2\r\n$3\r\nDEL\r\n$3\r\nkey\r\n\
+    *1\r\n$4\r\nEXEC\r\n";
+
+// One effect and two.
+#[test]
+fn ample(rt: HostRuntime) -> Result<(), Fail> {
+    assert!(rt; unit_of_one(rt.alloc())?.as_slice() == ONE);
+    assert!(rt; unit_of_two(rt.alloc())?.as_slice() == TWO);
     Ok(())
 }
