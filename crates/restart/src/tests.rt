@@ -27,7 +27,10 @@ impl Replayer for Counter {
     }
 }
 
-// A SET of 27 bytes, and two bytes of a torn unit.
+// A SET of 27 bytes.
+const WHOLE: &[u8] = b"*3\r\n$3\r\nSET\r\n$1\r\nb\r\n$1\r\n2\r\n";
+
+// The same, and two bytes of a torn unit.
 const TORN: &[u8] = b"*3\r\n$3\r\nSET\r\n$1\r\nb\r\n$1\r\n2\r\n*2";
 
 // A directory whose log got these bytes, and nothing was synced.
@@ -42,44 +45,36 @@ fn written(alloc: Global, log: Option<&[u8]>) -> Result<MemoryDir, NoMemory> {
     Ok(dir)
 }
 
-// What opening such a log answers.
-fn opened(alloc: Global, log: Option<&[u8]>) -> Result<Result<Opened, OpenStop>, NoMemory> {
-    let mut dir = written(alloc, log)?;
-    Ok(open_log(alloc, &mut dir, &mut Counter { effects: 0 }))
+// Whether opening such a log answers this.
+fn opens(alloc: Global, log: &[u8], wanted: Result<Opened, OpenStop>) -> Result<bool, NoMemory> {
+    let mut dir = written(alloc, Some(log))?;
+    Ok(open_log(alloc, &mut dir, &mut Counter { effects: 0 }) == wanted)
 }
 
-// What a look at such a log answers.
-fn looked(alloc: Global, log: Option<&[u8]>) -> Result<Result<Opened, OpenStop>, NoMemory> {
-    let mut dir = written(alloc, log)?;
-    Ok(look(alloc, &mut dir, &mut Counter { effects: 0 }))
+// Whether a look at such a log answers this.
+fn looks(alloc: Global, log: &[u8], wanted: Result<Opened, OpenStop>) -> Result<bool, NoMemory> {
+    let mut dir = written(alloc, Some(log))?;
+    Ok(look(alloc, &mut dir, &mut Counter { effects: 0 }) == wanted)
 }
 
-// A torn log, a whole one, an empty one and none are opened, and a look finds the same. A fault of
-// form is refused with its place.
+const FOUND: Result<Opened, OpenStop> = Ok(Opened {
+    length: 29,
+    kept: 27,
+    imported: false,
+});
+
+const REFUSED: Result<Opened, OpenStop> = Err(OpenStop::LogRefused {
+    file: FileName::Log,
+    offset: 0,
+    reason: Reason::NotMultibulk,
+});
+
+// A torn log is opened, and a look finds the same. A fault of form is refused with its place.
 #[test]
 fn ample(rt: HostRuntime) -> Result<(), Fail> {
-    let alloc = rt.alloc();
-    let rows: [(Option<&[u8]>, u64, u64); 4] = [
-        (Some(TORN), 29, 27),
-        (Some(&TORN[..27]), 27, 27),
-        (Some(b""), 0, 0),
-        (None, 0, 0),
-    ];
-    for (log, length, kept) in rows {
-        let found = Ok(Opened {
-            length,
-            kept,
-            imported: false,
-        });
-        assert_eq!(rt; opened(alloc, log)?, found);
-        assert_eq!(rt; looked(alloc, log)?, found);
-    }
-    let refused = Err(OpenStop::LogRefused {
-        file: FileName::Log,
-        offset: 0,
-        reason: Reason::NotMultibulk,
-    });
-    assert_eq!(rt; opened(alloc, Some(b"RED"))?, refused);
+    assert!(rt; opens(rt.alloc(), TORN, FOUND)?);
+    assert!(rt; looks(rt.alloc(), TORN, FOUND)?);
+    assert!(rt; opens(rt.alloc(), b"RED", REFUSED)?);
     Ok(())
 }
 
@@ -102,27 +97,35 @@ fn wanted(row: &Row, choice: Choice) -> u64 {
     if bytes && name { row.effects } else { 0 }
 }
 
-// Whether an image, opened again, restarts as it has to, and has no torn unit once the log is open.
-fn restarts(alloc: Global, dir: &MemoryDir, row: &Row, choice: Choice) -> Result<bool, NoMemory> {
-    let mut image = dir.image(choice)?;
+// How many effects a directory restarts to, and whether its log had no torn unit, if it is opened.
+fn restarted(alloc: Global, dir: &mut MemoryDir) -> Option<(u64, bool)> {
     let mut counter = Counter { effects: 0 };
-    match open_log(alloc, &mut image, &mut counter) {
-        Ok(opened) => {
-            let whole = opened.length == opened.kept || choice.since < row.name;
-            Ok(whole && counter.effects == wanted(row, choice))
-        }
-        Err(_) => Ok(false),
+    match open_log(alloc, dir, &mut counter) {
+        Ok(opened) => Some((counter.effects, opened.length == opened.kept)),
+        Err(_) => None,
     }
 }
 
-// The first image of a moment that does not restart as it has to. A crash keeps the change of names
-// or not, and up to 31 bytes that were added to the log or cut off; no other file is there.
-fn wrong_at(
-    alloc: Global,
-    dir: &MemoryDir,
-    row: &Row,
-    since: u64,
-) -> Result<Option<Choice>, NoMemory> {
+// Whether that is as an image has to restart: it has no torn unit once the log is open.
+fn is_due(start: Option<(u64, bool)>, row: &Row, choice: Choice) -> bool {
+    match start {
+        Some((effects, whole)) => {
+            effects == wanted(row, choice) && (whole || choice.since < row.name)
+        }
+        None => false,
+    }
+}
+
+// Whether an image, opened again, restarts as it has to.
+fn restarts(alloc: Global, dir: &MemoryDir, row: &Row, choice: Choice) -> Result<bool, NoMemory> {
+    let mut image = dir.image(choice)?;
+    let start = restarted(alloc, &mut image);
+    Ok(is_due(start, row, choice))
+}
+
+// Whether each image of a moment restarts as it has to. A crash keeps the change of names or not,
+// and up to 31 bytes that were added to the log or cut off; no other file is there.
+fn restarts_at(alloc: Global, dir: &MemoryDir, row: &Row, since: u64) -> Result<bool, NoMemory> {
     for kept in 0..64 {
         let choice = Choice {
             since,
@@ -133,44 +136,63 @@ fn wrong_at(
             dump_temp: 0,
         };
         if !restarts(alloc, dir, row, choice)? {
-            return Ok(Some(choice));
+            return Ok(false);
+        }
+    }
+    Ok(true)
+}
+
+// The first moment of a directory, its end included, of which an image does not restart as it has
+// to.
+fn wrong_moment(alloc: Global, dir: &MemoryDir, row: &Row) -> Result<Option<u64>, NoMemory> {
+    for since in 0..8 {
+        if !restarts_at(alloc, dir, row, since)? {
+            return Ok(Some(since));
         }
     }
     Ok(None)
 }
 
-// The first image of a log that is written and opened that does not restart as it has to.
-fn wrong_image(alloc: Global, row: &Row) -> Result<Option<Choice>, NoMemory> {
+// Whether each image of a log that is written and opened restarts as it has to.
+fn always_restarts(alloc: Global, row: &Row) -> Result<bool, NoMemory> {
     let mut dir = written(alloc, row.log)?;
-    let _ = open_log(alloc, &mut dir, &mut Counter { effects: 0 });
-    for since in 0..=row.name {
-        let wrong = wrong_at(alloc, &dir, row, since)?;
-        if wrong.is_some() {
-            return Ok(wrong);
-        }
-    }
-    Ok(None)
+    let _ = restarted(alloc, &mut dir);
+    Ok(wrong_moment(alloc, &dir, row)?.is_none())
 }
+
+const ROWS: [Row; 4] = [
+    Row {
+        log: Some(TORN),
+        effects: 1,
+        bytes: 4,
+        name: 7,
+    },
+    Row {
+        log: Some(WHOLE),
+        effects: 1,
+        bytes: 4,
+        name: 5,
+    },
+    Row {
+        log: Some(b""),
+        effects: 0,
+        bytes: 4,
+        name: 5,
+    },
+    Row {
+        log: None,
+        effects: 0,
+        bytes: 0,
+        name: 4,
+    },
+];
 
 // A torn log, a whole one, an empty one and none are written and opened. Whatever a crash leaves at
 // any moment of it restarts as it has to.
 #[test]
 fn every_image_of_an_opening_restarts(rt: HostRuntime) -> Result<(), Fail> {
-    let alloc = rt.alloc();
-    let row = |log, effects, bytes, name| Row {
-        log,
-        effects,
-        bytes,
-        name,
-    };
-    let rows = [
-        row(Some(TORN), 1, 4, 7),
-        row(Some(&TORN[..27]), 1, 4, 5),
-        row(Some(b""), 0, 4, 5),
-        row(None, 0, 0, 4),
-    ];
-    for row in &rows {
-        assert_eq!(rt; wrong_image(alloc, row)?, None);
+    for row in &ROWS {
+        assert!(rt; always_restarts(rt.alloc(), row)?);
     }
     Ok(())
 }
