@@ -1,0 +1,4 @@
+pub mod OwnWords
+pub mod ReadingParts
+pub mod Running
+pub mod HelloRuns

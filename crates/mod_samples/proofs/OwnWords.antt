@@ -1,0 +1,24 @@
+-- The words of a command, its name in upper case. Serves the clause of words::own.
+use Rattle.std.proofs.Common.{◌≡◌, [], ◌∷◌, length, map, drop, ◌<◌, IfOk, Result, Ok, Err, ap, ◌∙◌, arith}
+use Rattle.std.specs.Char.{to_ascii_uppercase}
+use Rattle.core_types.specs.Done.{own_words, word}
+use Rattle.core_types.specs.declared.effect.Effect.{Effect}
+use Rattle.core_types.specs.declared.no_memory.NoMemory.{NoMemory}
+use Rattle.module_laws.specs.Replay.{command_name}
+use Rattle.module_laws.specs.Words.{Bytes, Words}
+use Rattle.mod_samples.specs.Words.{own}
+
+pub named : (words : Words) (name : Bytes) → 0 < length words
+    → name ≡ map to_ascii_uppercase (word 0 words) → name ≡ command_name words
+unfolding word
+named [] name some is = absurd (omega (arith, some))
+named (w ∷ words) name some is = is
+
+-- the words with this name are those with the name in upper case
+pub own_is : (words : Words) (name : Bytes) (result : Result Effect NoMemory) → 0 < length words
+    → name ≡ map to_ascii_uppercase (word 0 words)
+    → IfOk result (λ effect. effect ≡ own_words name words)
+    → IfOk result (λ effect. effect.words ≡ own words)
+own_is words name (Ok effect) some is made =
+    ap (λ e. e.words) made ∙ ap (λ w. w ∷ drop 1 words) (named words name some is)
+own_is words name (Err why) some is made = tt

@@ -1,0 +1,4 @@
+pub mod Rises
+pub mod ReadBack
+pub mod Changing
+pub mod HelloLaws

@@ -1,0 +1,63 @@
+-- That a command which changes its key obeys the law of effects.
+use Rattle.std.proofs.Common.{◌≡◌, ◌||◌, Bool, true, false, List, [], ◌∷◌, Option, Some, None, refl, ap, ◌∙◌, if◌then◌else◌}
+use Rattle.std.specs.Option.{option_and_then}
+use Rattle.std.specs.Str.{bytes_eq}
+use Rattle.core_types.proofs.KeyLemmas.{changed_kept, removed_kept}
+use Rattle.core_types.specs.Done.{word}
+use Rattle.core_types.specs.Keys.{Native, value_at}
+use Rattle.core_types.specs.Keyspace.{IsString, IsKeyspace}
+use Rattle.core_types.specs.declared.note.Note.{Note}
+use Rattle.core_types.specs.declared.reply.Reply.{Reply}
+use Rattle.module_laws.specs.Laws.{IsDone, IsFullOrNone, IsSound}
+use Rattle.module_laws.specs.Limits.{IsWithinLimits}
+use Rattle.module_laws.specs.Meaning.{Meaning, type_of}
+use Rattle.module_laws.specs.Replay.{own_value, replayed, replayed_on, with_after}
+use Rattle.module_laws.specs.Told.{Seen}
+use Rattle.module_laws.specs.Types.{is_full, is_kept}
+use Rattle.module_laws.specs.Words.{Bytes, Words, Saved}
+use Rattle.module_laws.specs.inner.Plain.{answers_only}
+use Rattle.mod_samples.specs.Changes.{changes}
+
+-- a full value of a module is one that a key may have
+pub kept_full : (meaning : Meaning) (items : Saved) → bytes_eq meaning.name meaning.name ≡ true
+    → is_full (type_of meaning) items ≡ true
+    → is_kept (type_of meaning ∷ []) (record { name = meaning.name; items = items }) ≡ true
+kept_full meaning items itself full =
+    ap (λ b. if b then is_full (type_of meaning) items else false) itself ∙ full
+
+module _ (meaning : Meaning) (itself : bytes_eq meaning.name meaning.name ≡ true)
+    (allowed : Native → Bool) (seen : Seen)
+    (sound : IsSound (type_of meaning ∷ []) allowed seen) where
+  pub unchanged : {A : Type 0} (answer : A)
+      → IsDone (meaning ∷ []) allowed seen (answers_only answer seen)
+  unchanged answer = record { replayed = refl; small = tt; kept = sound.keys }
+
+  -- a key that is left with a full value or none leaves a keyspace
+  pub left_kept : (key : Bytes) (made : Option Saved) → IsString key → IsFullOrNone meaning made
+      → IsKeyspace allowed (with_after meaning.name key seen.keys made)
+  left_kept key None short full = removed_kept allowed seen.keys sound.keys key
+  left_kept key (Some items) short full =
+      changed_kept allowed seen.keys sound.keys key _ short
+      (sound.allows (record { name = meaning.name; items = items })
+      (ap (λ b. b || false) itself)
+      ∙ kept_full meaning items itself full)
+
+  -- A key is left with what the effect makes of what it had, where that has an answer.
+  pub change_done : (name key : Bytes) (more : Words) (old made : Option Saved)
+      → (notes : List Note) (reply : Reply) → IsWithinLimits (name ∷ key ∷ more)
+      → replayed seen.builtins (meaning ∷ []) seen.keys (record { words = name ∷ key ∷ more })
+      ≡ replayed_on meaning seen.keys (name ∷ key ∷ more) key
+      → own_value meaning.name (value_at seen.keys key) ≡ Some old
+      → meaning.after old (name ∷ key ∷ more) ≡ Some made → IsFullOrNone meaning made
+      → IsDone (meaning ∷ []) allowed seen (changes meaning.name seen
+      (record { made = made; effect = name ∷ key ∷ more; notes = notes }) reply)
+  unfolding word
+  change_done name key more old made notes reply limits own was after full = record {
+    replayed = ap (option_and_then (λ left. Some left)) (own
+        ∙ ap (option_and_then (λ o. option_and_then
+        (λ items. Some (with_after meaning.name key seen.keys items))
+        (meaning.after o (name ∷ key ∷ more)))) was
+        ∙ ap (option_and_then (λ items. Some (with_after meaning.name key seen.keys items))) after);
+    small = (limits, tt);
+    kept = left_kept key made limits.each.1.0 full;
+  }

@@ -1,0 +1,39 @@
+//! The words of a module's command.
+
+ghost use Rattle.std.specs.Prelude.{◌≡◌, ◌<◌, length, map, IfOk};
+ghost use Rattle.std.specs.Char.{to_ascii_uppercase};
+ghost use Rattle.core_types.specs.Done.{word};
+ghost use Rattle.mod_samples.specs.Words.{own};
+
+use core_types::{Args, Effect, NoMemory};
+use std::alloc::Global;
+
+// The word at this place, and behind the last word none.
+pub(crate) fn word_at(words: &Args, place: usize) -> &[u8]
+    ensures { result.now ≡ word place words.now }
+{
+    match words.get(place) {
+        Some(word) => word.as_slice(),
+        None => b"",
+    }
+}
+
+// A name in upper case.
+pub(crate) fn upper(alloc: Global, name: &[u8]) -> Result<Vec<u8>, NoMemory>
+    ensures { IfOk result (λ upper. upper.items ≡ map to_ascii_uppercase name.now) }
+{
+    Ok(
+        name.iter()
+            .map(|byte| byte.to_ascii_uppercase())
+            .collect(alloc)?,
+    )
+}
+
+// The words of a command, its name in upper case.
+pub(crate) fn own(alloc: Global, words: &Args) -> Result<Effect, NoMemory>
+    requires { 0 < length words.now }
+    ensures { IfOk result (λ effect. effect.words ≡ own words.now) }
+{
+    let name = upper(alloc, words.word(0))?;
+    Effect::own_words(alloc, &name, words)
+}
