@@ -1,9 +1,11 @@
 -- The words of a command, its name in upper case. Serves the clause of words::own.
 use Rattle.std.proofs.Common.{◌≡◌, [], ◌∷◌, length, map, drop, ◌<◌, IfOk, Result, Ok, Err, ap, ◌∙◌, arith}
 use Rattle.std.specs.Char.{to_ascii_uppercase}
+use Rattle.std.proofs.lemmas.List.{length-map}
 use Rattle.core_types.specs.Done.{own_words, word}
 use Rattle.core_types.specs.declared.effect.Effect.{Effect}
 use Rattle.core_types.specs.declared.no_memory.NoMemory.{NoMemory}
+use Rattle.module_laws.specs.Limits.{IsWithinLimits}
 use Rattle.module_laws.specs.Replay.{command_name}
 use Rattle.module_laws.specs.Words.{Bytes, Words}
 use Rattle.mod_samples.specs.Words.{own}
@@ -22,3 +24,12 @@ pub own_is : (words : Words) (name : Bytes) (result : Result Effect NoMemory) �
 own_is words name (Ok effect) some is made =
     ap (λ e. e.words) made ∙ ap (λ w. w ∷ drop 1 words) (named words name some is)
 own_is words name (Err why) some is made = tt
+
+-- the words with the name in upper case are within the limits
+pub own_limits : (words : Words) → IsWithinLimits words → IsWithinLimits (own words)
+own_limits [] limits = absurd (omega (arith, limits.some))
+own_limits (name ∷ words) limits = record {
+  some = omega arith;
+  few = limits.few;
+  each = (omega (arith, length-map name to_ascii_uppercase, limits.each.0), limits.each.1);
+}

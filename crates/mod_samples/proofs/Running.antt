@@ -1,5 +1,5 @@
 -- What the calls of a module leave. Serves the clauses of the calls of HelloType and WordCount.
-use Rattle.std.proofs.Common.{◌≡◌, ℕ, ◌+◌, Bool, true, false, [], ◌∷◌, ◌++◌, Option, Some, None, Result, Ok, Err, refl, sym, ap, subst, ◌∙◌, arith, if◌then◌else◌}
+use Rattle.std.proofs.Common.{◌≡◌, ℕ, ◌+◌, Bool, true, false, [], ◌∷◌, ◌++◌, Option, Some, None, Result, Ok, Err, refl, sym, ap, subst, inr, ◌∙◌, arith, if◌then◌else◌}
 use Rattle.std.specs.Option.{option_and_then, option_map}
 use Rattle.std.specs.Result.{IsErrAnd}
 use Rattle.std.specs.Str.{bytes_eq}
@@ -14,7 +14,7 @@ use Rattle.core_types.specs.declared.stop.Stop.{Stop}
 use Rattle.core_types.specs.declared.stop.Stop.TheVariants as stop
 use Rattle.core_types.specs.declared.value.Value.{Value}
 use Rattle.core_types.specs.declared.value.Value.TheVariants as value
-use Rattle.module_laws.specs.Laws.{IsFullOrNone}
+use Rattle.module_laws.specs.Laws.{IsFullOrNone, IsSound}
 use Rattle.module_laws.specs.Limits.{IsWithinLimits}
 use Rattle.module_laws.specs.Meaning.{Did, Meaning, type_of}
 use Rattle.module_laws.specs.Replay.{own_value, with_after}
@@ -25,7 +25,7 @@ use Rattle.module_laws.specs.Words.{Bytes, Words, Saved}
 use Rattle.module_laws.specs.declared.verdict.Verdict.{Verdict}
 use Rattle.module_laws.specs.declared.verdict.Verdict.TheVariants as verdict
 use Rattle.module_laws.specs.inner.Plain.{answers_only, plain_state}
-use Rattle.mod_samples.specs.Changes.{Change, changes, leaves}
+use Rattle.mod_samples.specs.Changes.{Change, changes, leaves, with_notes}
 use Rattle.mod_samples.specs.inner.Changing.{left_kept}
 
 -- the second word is within the limits
@@ -70,7 +70,8 @@ set_changed keys key set was is = set_case keys key set was (value_at keys key) 
 module _ (meaning : Meaning) (itself : bytes_eq meaning.name meaning.name ≡ true) where
   -- the key was left so, and no value came
   pub stores : (key : Bytes) (made : Option Saved) (old new : Told) (m f : ℕ) → IsString key
-      → IsFullOrNone meaning made
+      → ((allowed : Native → Bool) → IsSound (type_of meaning ∷ []) allowed old.seen
+      → IsFullOrNone meaning made)
       → new ≡ with_keys (with_after meaning.name key old.seen.keys made) old
       → Runs (type_of meaning) (leaves meaning.name old.seen key made) (Ok tt)
       (scene (plain_state m f) old) (scene (plain_state m f) new)
@@ -88,7 +89,7 @@ module _ (meaning : Meaning) (itself : bytes_eq meaning.name meaning.name ≡ tr
       counted = record { made = omega arith; freed = omega arith; balance = omega arith };
     };
     kept = λ allowed sound. subst (λ t. IsKeyspace allowed t.seen.keys) (sym is)
-        (left_kept meaning itself allowed old.seen sound key made short full);
+        (left_kept meaning itself allowed old.seen sound key made short (full allowed sound));
     spent = λ ends. cc;
   }
 
@@ -122,6 +123,22 @@ module _ (meaning : Meaning) (itself : bytes_eq meaning.name meaning.name ≡ tr
             (left_kept meaning itself allowed old.seen sound key (Some items) short full);
         spent = λ ends. cc;
       }
+
+-- a value was made that the context did not take, and was freed
+pub refused : {A : Type 0} (type : NativeType) (did : Did A) (why : Stop) (old new : Told)
+    → (m m' f f' : ℕ) → new ≡ old → m' ≡ m + 1 → f' ≡ f + 1
+    → (why ≡ stop.NumbersSpent → old.has_serial ≡ false)
+    → Runs type did (Err why) (scene (plain_state m f) old) (scene (plain_state m' f') new)
+refused type did why old new m m' f f' same more ended spent = record {
+  does = tt;
+  counted = record {
+    count = 0;
+    added = ap (λ t. t.added) same ∙ sym (append-nil old.added);
+    counted = record { made = omega arith; freed = omega arith; balance = omega arith };
+  };
+  kept = λ allowed sound. subst (λ t. IsKeyspace allowed t.seen.keys) (sym same) sound.keys;
+  spent = λ ends. let is : why ≡ stop.NumbersSpent = cc in inr (ap (λ t. t.has_serial) same ∙ spent is);
+}
 
 -- where a call did its part and the next then stops for want of memory, what was left stays
 pub stops : {A B : Type 0} (type : NativeType) (first : Did A) (did : Did B) (answer : A)
@@ -160,6 +177,33 @@ tells type name change note said given old told new before after noted says runs
     notes = ap (λ t. t.notes) is
         ∙ ap (λ ns. ns ++ note ∷ []) (runs.does.notes ∙ append-nil _)
         ∙ ap (λ ns. old.notes ++ ns) (sym noted);
+  };
+  counted = record {
+    count = runs.counted.count;
+    added = ap (λ t. t.added) is ∙ runs.counted.added;
+    counted = runs.counted.counted;
+  };
+  kept = λ allowed sound. subst (λ t. IsKeyspace allowed t.seen.keys) (sym is)
+      (runs.kept allowed sound);
+  spent = λ ends. cc;
+}
+
+-- a key was left so, and its change was then told by notes and an effect
+pub tells_all : (type : NativeType) (name : Bytes) (change : Change) (said : Reply)
+    → (given : Verdict) (old told new : Told) (before after : State) → given ≡ verdict.Say said
+    → Runs type (leaves name old.seen (word 1 change.effect) change.made) (Ok tt)
+    (scene before old) (scene after told)
+    → new ≡ with_effect (record { words = change.effect }) (with_notes change.notes told)
+    → Runs type (changes name old.seen change said) (Ok given) (scene before old)
+    (scene after new)
+tells_all type name change said given old told new before after says runs is = record {
+  does = record {
+    answer = says;
+    private = runs.does.private;
+    seen = ap (λ t. t.seen) is ∙ runs.does.seen;
+    effects = ap (λ t. t.effects) is
+        ∙ ap (λ es. es ++ record { words = change.effect } ∷ []) (runs.does.effects ∙ append-nil _);
+    notes = ap (λ t. t.notes) is ∙ ap (λ ns. ns ++ change.notes) (runs.does.notes ∙ append-nil _);
   };
   counted = record {
     count = runs.counted.count;

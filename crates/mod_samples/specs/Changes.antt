@@ -1,5 +1,5 @@
 -- What a command of a module does that changes its key.
-use Rattle.std.specs.Prelude.{ℕ, ◌-◌, ◌^◌, pos, min, [], ◌∷◌, List, Option}
+use Rattle.std.specs.Prelude.{ℕ, ◌-◌, ◌^◌, pos, min, [], ◌∷◌, ◌++◌, List, Option}
 use Rattle.core_types.specs.Done.{word}
 use Rattle.core_types.specs.Refusals.{refused}
 use Rattle.core_types.specs.declared.note.Note.{Note}
@@ -9,7 +9,7 @@ use Rattle.core_types.specs.declared.reply.Reply.{Reply}
 use Rattle.core_types.specs.declared.reply.Reply.TheVariants as reply
 use Rattle.module_laws.specs.Meaning.{Did}
 use Rattle.module_laws.specs.Replay.{with_after}
-use Rattle.module_laws.specs.Told.{Seen}
+use Rattle.module_laws.specs.Told.{Seen, Told}
 use Rattle.module_laws.specs.Words.{Bytes, Words, Saved}
 use Rattle.module_laws.specs.declared.verdict.Verdict.{Verdict}
 use Rattle.module_laws.specs.declared.verdict.Verdict.TheVariants as verdict
@@ -57,3 +57,7 @@ leaves name seen key made = record {
   effects = [];
   notes = [];
 }
+
+-- notes were added
+abbrev pub with_notes : List Note → Told → Told
+with_notes notes told = record told { notes = told.notes ++ notes }

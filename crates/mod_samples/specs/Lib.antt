@@ -3,4 +3,7 @@ pub mod Rising
 pub mod HelloNumbers
 pub mod Changes
 pub mod HelloType
+pub mod Counts
+pub mod CountParts
+pub mod WordCount
 pub mod inner

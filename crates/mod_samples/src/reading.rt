@@ -24,7 +24,7 @@ fn number_after(encver: u16, last: Option<i64>, part: u64) -> Option<i64>
 }
 
 // A place at which a part does not fit.
-fn shape(place: u64) -> LoadStop
+pub(crate) fn shape(place: u64) -> LoadStop
     ensures { result ≡ LoadStop.Refused (LoadFault.Shape place) }
 {
     LoadStop::Refused(LoadFault::Shape(place))

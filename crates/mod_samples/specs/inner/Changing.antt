@@ -1,13 +1,16 @@
 -- That a command which changes its key obeys the law of effects.
-use Rattle.std.proofs.Common.{◌≡◌, ◌||◌, Bool, true, false, List, [], ◌∷◌, Option, Some, None, refl, ap, ◌∙◌, if◌then◌else◌}
-use Rattle.std.specs.Option.{option_and_then}
+use Rattle.std.proofs.Common.{◌≡◌, ◌||◌, subst, Bool, true, false, List, [], ◌∷◌, Option, Some, None, refl, sym, ap, ◌∙◌, if◌then◌else◌}
+use Rattle.std.specs.Option.{option_and_then, option_map}
 use Rattle.std.specs.Str.{bytes_eq}
+use Rattle.std.proofs.lemmas.Option.{none-some, same_Some}
 use Rattle.core_types.proofs.KeyLemmas.{changed_kept, removed_kept}
 use Rattle.core_types.specs.Done.{word}
-use Rattle.core_types.specs.Keys.{Native, value_at}
-use Rattle.core_types.specs.Keyspace.{IsString, IsKeyspace}
+use Rattle.core_types.specs.Keys.{Entry, Native, entry_at, value_at}
+use Rattle.core_types.specs.Keyspace.{IsString, IsKeyspace, IsValue}
 use Rattle.core_types.specs.declared.note.Note.{Note}
 use Rattle.core_types.specs.declared.reply.Reply.{Reply}
+use Rattle.core_types.specs.declared.value.Value.{Value}
+use Rattle.core_types.specs.declared.value.Value.TheVariants as value
 use Rattle.module_laws.specs.Laws.{IsDone, IsFullOrNone, IsSound}
 use Rattle.module_laws.specs.Limits.{IsWithinLimits}
 use Rattle.module_laws.specs.Meaning.{Meaning, type_of}
@@ -41,6 +44,36 @@ module _ (meaning : Meaning) (itself : bytes_eq meaning.name meaning.name ≡ tr
       (sound.allows (record { name = meaning.name; items = items })
       (ap (λ b. b || false) itself)
       ∙ kept_full meaning items itself full)
+
+  allowed_full : (b : Bool) (native : Native) → bytes_eq native.name meaning.name ≡ b
+      → allowed native ≡ true → (old : Option Saved)
+      → (if b then Some (Some native.items) else None) ≡ Some old → IsFullOrNone meaning old
+  allowed_full true native same may old is =
+      subst (IsFullOrNone meaning) (same_Some (Some native.items) old is)
+      (sym (ap (λ b. if b then is_full (type_of meaning) native.items else false) same)
+      ∙ sym (sound.allows native (ap (λ b. b || false) same)) ∙ may)
+  allowed_full false native same may old is = absurd (none-some old is)
+
+  kind_case : (old : Option Saved) (there : Value Native) → IsValue allowed there
+      → own_value meaning.name (Some there) ≡ Some old → IsFullOrNone meaning old
+  kind_case old (value.Native native) may is =
+      allowed_full (bytes_eq native.name meaning.name) native refl may old is
+  kind_case old (value.Str text) may is = absurd (none-some old is)
+  kind_case old (value.List items) may is = absurd (none-some old is)
+  kind_case old (value.Hash fields) may is = absurd (none-some old is)
+
+  own_case : (key : Bytes) (old : Option Saved) (there : Option (Entry Native))
+      → entry_at seen.keys key ≡ there
+      → own_value meaning.name (option_map (λ entry. entry.value) there) ≡ Some old
+      → IsFullOrNone meaning old
+  own_case key old None at is = subst (IsFullOrNone meaning) (same_Some None old is) tt
+  own_case key old (Some entry) at is =
+      kind_case old entry.value (sound.keys key entry at).1.0 is
+
+  -- a value of the module that a key has is full
+  pub own_full : (key : Bytes) (old : Option Saved)
+      → own_value meaning.name (value_at seen.keys key) ≡ Some old → IsFullOrNone meaning old
+  own_full key old is = own_case key old (entry_at seen.keys key) refl is
 
   -- A key is left with what the effect makes of what it had, where that has an answer.
   pub change_done : (name key : Bytes) (more : Words) (old made : Option Saved)

@@ -14,5 +14,5 @@ pub returns-in_ok-write-in-Some-clause-runs : goal.returns-in_ok-write-in-Some-c
 returns-in_ok-write-in-Some-clause-runs g c =
     let old = g.C.Context.told c.args.ctx.now in let key = c.args.key.now in let ns = list_at old.seen.keys key in
     stores hellotype refl key (Some (saved_numbers (inserted c.args.n ns))) old (g.C.Context.told c.write.new.ctx)
-    c.args.self.now.tally.made c.args.self.now.tally.freed c.requires.string (inserted_full c.args.n ns)
+    c.args.self.now.tally.made c.args.self.now.tally.freed c.requires.string (λ allowed sound. inserted_full c.args.n ns)
     (c.in_ok-write-in-Some.ensures.ok ∙ ap (λ m. with_native key (shown (inserted m ns)) old) (to_z-of_z w64 c.args.n c.ranges.n))
