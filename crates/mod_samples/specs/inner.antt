@@ -5,3 +5,4 @@ pub mod HelloLaws
 pub mod CountsRise
 pub mod CountsBack
 pub mod CountLaws
+pub mod States

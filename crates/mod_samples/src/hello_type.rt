@@ -16,9 +16,11 @@ ghost use Rattle.mod_samples.specs.Changes.{leaves};
 ghost use Rattle.mod_samples.specs.HelloNumbers.{saved_numbers};
 ghost use Rattle.mod_samples.specs.HelloType.{hello_after, hello_name, hellotype, inserts, lengths, list_at, natural, number_array, numbers_at, ranges, shown, to_insert};
 ghost use Rattle.mod_samples.specs.Rising.{inserted, is_rising};
+ghost use Rattle.mod_samples.specs.inner.States.{hello_state};
 ghost use Rattle.mod_samples.specs.inner.HelloLaws.{hello_lawful, hello_reads_back};
 
 use crate::answers::{count, refuse};
+use crate::effects::add_effect;
 use crate::hello_list::HelloList;
 use crate::reading::{numbers_in, saved};
 use crate::rising::Rising;
@@ -162,7 +164,9 @@ fn write<C: Context<HelloList>>(
 
 impl HelloType {
     /// A module that has made no values.
-    pub fn new() -> HelloType {
+    pub fn new() -> HelloType
+        ensures none { hello_state result ≡ plain_state 0 0 }
+    {
         HelloType {
             tally: Tally::new(),
         }
@@ -261,7 +265,7 @@ impl HelloType {
         };
         self.store(alloc, ctx, key, n)?;
         ctx.notify(alloc, NoteClass::Module, b"hellotype.insert", key)?;
-        ctx.replicate(alloc, own)?;
+        add_effect(alloc, ctx, own)?;
         Ok(count(length.saturating_add(1)))
     }
 }
@@ -279,7 +283,7 @@ impl Module for HelloType {
 
     ghost meaning = { hellotype };
 
-    ghost state = { λ m. plain_state m.tally.made m.tally.freed };
+    ghost state = { hello_state };
 
     ghost named = { (refl, refl) };
 

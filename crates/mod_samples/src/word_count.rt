@@ -17,11 +17,13 @@ ghost use Rattle.mod_samples.specs.Changes.{leaves, with_notes};
 ghost use Rattle.mod_samples.specs.CountParts.{saved_counts};
 ghost use Rattle.mod_samples.specs.Counts.{count_at, counted, is_count, some_counts, with_count, without_word};
 ghost use Rattle.mod_samples.specs.WordCount.{adds, count_after, count_name, counts_at, counts_or_none, counts_shown, drop_notes, drops, gets, is_drop, positive, puts, set_words, sets, to_set, value_of, wordcount, words_at};
+ghost use Rattle.mod_samples.specs.inner.States.{count_state};
 ghost use Rattle.mod_samples.specs.inner.CountLaws.{count_lawful, count_reads_back};
 
 use crate::answers::refuse;
 use crate::count_reading::{counts_in, saved};
 use crate::counts::Counts;
+use crate::effects::add_effect;
 use crate::tally::Tally;
 use crate::word_counts::WordCounts;
 use crate::words::{own, word_at};
@@ -250,7 +252,9 @@ fn get<C: Context<WordCounts>>(alloc: Global, ctx: &C, words: &Args) -> Result<V
 
 impl WordCount {
     /// A module that has made no values.
-    pub fn new() -> WordCount {
+    pub fn new() -> WordCount
+        ensures none { count_state result ≡ plain_state 0 0 }
+    {
         WordCount {
             tally: Tally::new(),
         }
@@ -352,7 +356,7 @@ impl WordCount {
         let key = word_at(&effect.words, 1);
         self.store(alloc, ctx, key, word_at(&effect.words, 2), n)?;
         ctx.notify(alloc, NoteClass::Module, b"wordcount.set", key)?;
-        ctx.replicate(alloc, effect)?;
+        add_effect(alloc, ctx, effect)?;
         Ok(Verdict::Say(said))
     }
 
@@ -433,7 +437,7 @@ impl WordCount {
         }
         let gone = take_out(alloc, ctx, key, word)?;
         tell_drop(alloc, ctx, key, gone)?;
-        ctx.replicate(alloc, own)?;
+        add_effect(alloc, ctx, own)?;
         Ok(Verdict::Say(Reply::Int(1)))
     }
 
@@ -481,7 +485,7 @@ impl Module for WordCount {
 
     ghost meaning = { wordcount };
 
-    ghost state = { λ m. plain_state m.tally.made m.tally.freed };
+    ghost state = { count_state };
 
     ghost named = { (refl, refl) };
 

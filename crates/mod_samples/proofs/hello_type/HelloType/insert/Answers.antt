@@ -30,16 +30,16 @@ returns-in_err-notify-clause-runs g c =
     (ap (λ t. t.seen) c.in_err-notify.ensures.err) (ap (λ t. t.added) c.in_err-notify.ensures.err)
     c.from_residual-in_err-notify.ensures.1
 
-pub returns-in_err-replicate-clause-runs : goal.returns-in_err-replicate-clause-runs
-returns-in_err-replicate-clause-runs g c =
-    let told = g.C.Context.told c.store.new.ctx in let new = g.C.Context.told c.replicate.new.self in
-    stops _ _ _ _ c.from_residual-in_err-replicate.result _ _ told new c.in_ok-store.ensures.runs
-    (ap (λ t. t.seen) (c.in_err-replicate.ensures.err ∙ c.in_ok-notify.ensures.ok)) (ap (λ t. t.added) (c.in_err-replicate.ensures.err ∙ c.in_ok-notify.ensures.ok))
-    c.from_residual-in_err-replicate.ensures.1
+pub returns-in_err-add_effect-clause-runs : goal.returns-in_err-add_effect-clause-runs
+returns-in_err-add_effect-clause-runs g c =
+    let told = g.C.Context.told c.store.new.ctx in let new = g.C.Context.told c.add_effect.new.ctx in
+    stops _ _ _ _ c.from_residual-in_err-add_effect.result _ _ told new c.in_ok-store.ensures.runs
+    (ap (λ t. t.seen) (c.in_err-add_effect.ensures.err ∙ c.in_ok-notify.ensures.ok)) (ap (λ t. t.added) (c.in_err-add_effect.ensures.err ∙ c.in_ok-notify.ensures.ok))
+    c.from_residual-in_err-add_effect.ensures.1
 
 pub returns-clause-runs : goal.returns-clause-runs
 returns-clause-runs g c =
-    let old = g.C.Context.told c.args.ctx.now in let told = g.C.Context.told c.store.new.ctx in let new = g.C.Context.told c.replicate.new.self in
+    let old = g.C.Context.told c.args.ctx.now in let told = g.C.Context.told c.store.new.ctx in let new = g.C.Context.told c.add_effect.new.ctx in
     let words = c.args.own.words in let n = c.in-Some.n in let ns = list_at old.seen.keys (word 1 words) in
     let key : c.word_at-key.result.now ≡ word 1 words = c.word_at-key.ensures in
     let read : i64_of (word 2 words) ≡ Some n = ap i64_of (sym c.word_at.ensures) ∙ sym c.read_i64.ensures.value ∙ c.in-Some.is in
@@ -55,4 +55,4 @@ returns-clause-runs g c =
     c.count.result old told new before after refl
     (c.count.ensures ∙ ap (λ k. verdict.Say (reply.Int (pos k))) same)
     (rw (key, to_z-of_z w64 n fits) at c.in_ok-store.ensures.runs)
-    (c.in_ok-replicate.ensures.ok ∙ ap (with_effect (record { words = words })) (rw key at c.in_ok-notify.ensures.ok)))
+    (c.in_ok-add_effect.ensures.ok ∙ ap (with_effect (record { words = words })) (rw key at c.in_ok-notify.ensures.ok)))

@@ -24,19 +24,19 @@ returns-in_err-tell_drop-clause-runs g c =
     (rw c.word_at-key.ensures (key_short c.args.own.words c.requires.small)) (λ allowed sound. out_full allowed old.seen sound key wd) c.in_ok-gone.ensures.ok)
     c.tell_drop.ensures.seen c.tell_drop.ensures.added c.from_residual-in_err-tell_drop.ensures.1
 
-pub returns-in_err-replicate-clause-runs : goal.returns-in_err-replicate-clause-runs
-returns-in_err-replicate-clause-runs g c =
-    let old = g.C.Context.told c.args.ctx.now in let told = g.C.Context.told c.take_out.new.ctx in let new = g.C.Context.told c.replicate.new.self in
+pub returns-in_err-add_effect-clause-runs : goal.returns-in_err-add_effect-clause-runs
+returns-in_err-add_effect-clause-runs g c =
+    let old = g.C.Context.told c.args.ctx.now in let told = g.C.Context.told c.take_out.new.ctx in let new = g.C.Context.told c.add_effect.new.ctx in
     let key = c.word_at-key.result.now in let wd = c.word_at-word.result.now in
-    stops _ _ _ _ c.from_residual-in_err-replicate.result _ _ told new
+    stops _ _ _ _ c.from_residual-in_err-add_effect.result _ _ told new
     (stores wordcount refl key (value_of (without_word wd (words_at old.seen.keys key))) old told c.args.self.now.tally.made c.args.self.now.tally.freed
     (rw c.word_at-key.ensures (key_short c.args.own.words c.requires.small)) (λ allowed sound. out_full allowed old.seen sound key wd) c.in_ok-gone.ensures.ok)
-    (ap (λ t. t.seen) c.in_err-replicate.ensures.err ∙ c.tell_drop.ensures.seen) (ap (λ t. t.added) c.in_err-replicate.ensures.err ∙ c.tell_drop.ensures.added)
-    c.from_residual-in_err-replicate.ensures.1
+    (ap (λ t. t.seen) c.in_err-add_effect.ensures.err ∙ c.tell_drop.ensures.seen) (ap (λ t. t.added) c.in_err-add_effect.ensures.err ∙ c.tell_drop.ensures.added)
+    c.from_residual-in_err-add_effect.ensures.1
 
 pub returns-clause-runs : goal.returns-clause-runs
 returns-clause-runs g c =
-    let old = g.C.Context.told c.args.ctx.now in let told = g.C.Context.told c.take_out.new.ctx in let new = g.C.Context.told c.replicate.new.self in
+    let old = g.C.Context.told c.args.ctx.now in let told = g.C.Context.told c.take_out.new.ctx in let new = g.C.Context.told c.add_effect.new.ctx in
     let words = c.args.own.words in let keys = old.seen.keys in
     let key : c.word_at-key.result.now ≡ word 1 words = c.word_at-key.ensures in
     let wd : c.word_at-word.result.now ≡ word 2 words = c.word_at-word.ensures in
@@ -52,5 +52,5 @@ returns-clause-runs g c =
     (λ allowed sound. out_full allowed old.seen sound (word 1 words) (word 2 words)) (rw (key, wd) at c.in_ok-gone.ensures.ok) in
     let gone : c.in_ok-gone.gone ≡ is_none (value_of left) = rw (key, wd) at c.in_ok-gone.ensures.gone in
     rw has.there (rw drops (tells_all (type_of wordcount) count_name change (reply.Int (pos 1)) _ old told new (plain_state m f) (plain_state m f) refl runs
-    (c.in_ok-replicate.ensures.ok ∙ ap (with_effect (record { words = words })) (c.in_ok-tell_drop.ensures.ok
+    (c.in_ok-add_effect.ensures.ok ∙ ap (with_effect (record { words = words })) (c.in_ok-tell_drop.ensures.ok
     ∙ ap (λ k. with_notes (drop_notes k c.in_ok-gone.gone) told) key ∙ ap (λ b. with_notes (drop_notes (word 1 words) b) told) gone))))

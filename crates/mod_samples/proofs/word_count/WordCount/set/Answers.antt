@@ -25,16 +25,16 @@ returns-in_err-notify-clause-runs g c =
     (ap (λ t. t.seen) c.in_err-notify.ensures.err) (ap (λ t. t.added) c.in_err-notify.ensures.err)
     c.from_residual-in_err-notify.ensures.1
 
-pub returns-in_err-replicate-clause-runs : goal.returns-in_err-replicate-clause-runs
-returns-in_err-replicate-clause-runs g c =
-    let told = g.C.Context.told c.store.new.ctx in let new = g.C.Context.told c.replicate.new.self in
-    stops _ _ _ _ c.from_residual-in_err-replicate.result _ _ told new c.in_ok-store.ensures.runs
-    (ap (λ t. t.seen) (c.in_err-replicate.ensures.err ∙ c.in_ok-notify.ensures.ok)) (ap (λ t. t.added) (c.in_err-replicate.ensures.err ∙ c.in_ok-notify.ensures.ok))
-    c.from_residual-in_err-replicate.ensures.1
+pub returns-in_err-add_effect-clause-runs : goal.returns-in_err-add_effect-clause-runs
+returns-in_err-add_effect-clause-runs g c =
+    let told = g.C.Context.told c.store.new.ctx in let new = g.C.Context.told c.add_effect.new.ctx in
+    stops _ _ _ _ c.from_residual-in_err-add_effect.result _ _ told new c.in_ok-store.ensures.runs
+    (ap (λ t. t.seen) (c.in_err-add_effect.ensures.err ∙ c.in_ok-notify.ensures.ok)) (ap (λ t. t.added) (c.in_err-add_effect.ensures.err ∙ c.in_ok-notify.ensures.ok))
+    c.from_residual-in_err-add_effect.ensures.1
 
 pub returns-clause-runs : goal.returns-clause-runs
 returns-clause-runs g c =
-    let old = g.C.Context.told c.args.ctx.now in let told = g.C.Context.told c.store.new.ctx in let new = g.C.Context.told c.replicate.new.self in
+    let old = g.C.Context.told c.args.ctx.now in let told = g.C.Context.told c.store.new.ctx in let new = g.C.Context.told c.add_effect.new.ctx in
     let words = c.args.effect.words in let cs = words_at old.seen.keys (word 1 words) in
     let key : c.word_at-key.result.now ≡ word 1 words = c.word_at-key.ensures in
     let wd : c.word_at.result.now ≡ word 2 words = c.word_at.ensures in
@@ -42,4 +42,4 @@ returns-clause-runs g c =
     tells (type_of wordcount) count_name change (module_note (codes "wordcount.set") (word 1 words)) c.args.said _ old told new
     (plain_state c.args.self.now.tally.made c.args.self.now.tally.freed) (plain_state c.store.new.self.tally.made c.store.new.self.tally.freed) refl refl
     (rw (key, wd) at c.in_ok-store.ensures.runs)
-    (c.in_ok-replicate.ensures.ok ∙ ap (with_effect (record { words = words })) (rw key at c.in_ok-notify.ensures.ok))
+    (c.in_ok-add_effect.ensures.ok ∙ ap (with_effect (record { words = words })) (rw key at c.in_ok-notify.ensures.ok))
