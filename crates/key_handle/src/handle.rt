@@ -74,15 +74,15 @@ impl<'a, V: Viewed, C: Context<V>> Handle<'a, C, V> {
 
     /// Its value, to be changed in place.
     pub fn native_mut(&mut self, alloc: Global) -> Result<&mut V, HandleFault>
+        ensures value { IfOk result (λ lent.
+            key_value (opened C.told C.held self.old) ≡ Some (value.Native (V.native lent.now))) }
+        ensures ok { OnOk result ((opened C.told C.held self.old).mode ≡ mode.Write) }
+        ensures fault { IfErr result (MayLend V.types (opened C.told C.held self.old)) }
         ensures* lends { sem 𝓛 (LendsSoOk
             (the_row (record { mir = named 1; lft = [] }) C.row V.row) V.row self.entry result
             (λ end value. opened C.told C.held end
             ≡ native_changed (V.native value) (opened C.told C.held self.old))
             (λ end. opened C.told C.held end ≡ opened C.told C.held self.old)) }
-        ensures value { IfOk result (λ lent.
-            key_value (opened C.told C.held self.old) ≡ Some (value.Native (V.native lent.now))) }
-        ensures ok { OnOk result ((opened C.told C.held self.old).mode ≡ mode.Write) }
-        ensures fault { IfErr result (MayLend V.types (opened C.told C.held self.old)) }
     {
         if self.mode == Mode::Read {
             return Err(HandleFault::ReadOnly);
