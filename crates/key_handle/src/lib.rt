@@ -9,6 +9,8 @@
 
 mod fault;
 mod handle;
+#[cfg(test)]
+mod tests;
 
 pub use fault::HandleFault;
 pub use handle::{Handle, Mode};
