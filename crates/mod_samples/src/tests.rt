@@ -10,6 +10,7 @@ ghost use Rattle.module_laws.specs.Laws.{IsCall};
 ghost use Rattle.module_laws.specs.Sets.{HasPlace};
 ghost use Rattle.module_laws.specs.Types.{is_short};
 
+mod opened;
 mod shelf;
 mod slot;
 
