@@ -1,21 +1,23 @@
 //! hellotype: a key has a list of numbers in rising order.
 
-ghost use Rattle.std.specs.Prelude.{◌≡◌, ◌+◌, ◌-◌, ◌^◌, ◌<◌, true, refl, [], ◌∷◌, length, IfOk, IfErr, IsSome, OnOk, OnErr, Some, None, OnSome};
+ghost use Rattle.std.specs.Prelude.{◌≡◌, ◌+◌, ◌-◌, ◌^◌, ◌<◌, ◌≤◌, true, refl, [], ◌∷◌, length, IfOk, IfErr, IsSome, OnOk, OnErr, Some, None, OnSome};
 ghost use Rattle.std.specs.Option.{option_map};
 ghost use Rattle.core_types.specs.Keys.{value_at};
 ghost use Rattle.core_types.specs.Keyspace.{IsString};
 ghost use Rattle.core_types.specs.Done.{word};
 ghost use Rattle.byte_text.specs.Number.{i64_of};
 ghost use Rattle.module_laws.specs.Applying.{Applies, saved_of};
+ghost use Rattle.module_laws.specs.Laws.{IsCall};
 ghost use Rattle.module_laws.specs.Limits.{IsSmallEffect};
 ghost use Rattle.module_laws.specs.Meaning.{type_of};
 ghost use Rattle.module_laws.specs.Runs.{Runs, scene};
 ghost use Rattle.module_laws.specs.Told.{with_native};
-ghost use Rattle.module_laws.specs.inner.Plain.{plain_state};
+ghost use Rattle.module_laws.specs.inner.Plain.{answers_only, plain_state};
 ghost use Rattle.mod_samples.specs.Changes.{leaves};
 ghost use Rattle.mod_samples.specs.HelloNumbers.{saved_numbers};
-ghost use Rattle.mod_samples.specs.HelloType.{hello_after, hello_name, hellotype, inserts, lengths, list_at, natural, number_array, numbers_at, ranges, shown, to_insert};
+ghost use Rattle.mod_samples.specs.HelloType.{hello_after, hello_name, hello_rows, hello_says, hellotype, inserts, lengths, list_at, natural, number_array, numbers_at, ranges, shown, to_insert};
 ghost use Rattle.mod_samples.specs.Rising.{inserted, is_rising};
+ghost use Rattle.mod_samples.specs.Words.{own};
 ghost use Rattle.mod_samples.specs.inner.States.{hello_state};
 ghost use Rattle.mod_samples.specs.inner.HelloLaws.{hello_lawful, hello_reads_back};
 
@@ -201,6 +203,7 @@ impl HelloType {
             (scene (plain_state self.old.tally.made self.old.tally.freed) (C.told ctx.old))
             (scene (plain_state self.new.tally.made self.new.tally.freed) (C.told ctx.new)) }
         ensures holds { C.held ctx.new ≡ C.held ctx.old }
+        ensures made { self.new.tally.made ≤ self.old.tally.made + 1 }
     {
         let numbers = Rising::one(alloc, n)?;
         let value = self.make(numbers)?;
@@ -231,6 +234,7 @@ impl HelloType {
             (scene (plain_state self.old.tally.made self.old.tally.freed) (C.told ctx.old))
             (scene (plain_state self.new.tally.made self.new.tally.freed) (C.told ctx.new)) }
         ensures holds { C.held ctx.new ≡ C.held ctx.old }
+        ensures made { self.new.tally.made ≤ self.old.tally.made + 1 }
     {
         match ctx.kind(key) {
             None => self.put(alloc, ctx, key, n),
@@ -255,6 +259,7 @@ impl HelloType {
             (scene (plain_state self.old.tally.made self.old.tally.freed) (C.told ctx.old))
             (scene (plain_state self.new.tally.made self.new.tally.freed) (C.told ctx.new)) }
         ensures holds { C.held ctx.new ≡ C.held ctx.old }
+        ensures made { self.new.tally.made ≤ self.old.tally.made + 1 }
     {
         let Some(n) = read_i64(word_at(&own.words, 2)) else {
             return Ok(refuse(alloc, Refusal::NotAnInteger)?);
@@ -302,7 +307,15 @@ impl Module for HelloType {
         alloc: Global,
         ctx: &mut C,
         words: &Args,
-    ) -> Result<Verdict, Stop> {
+    ) -> Result<Verdict, Stop>
+        requires { IsCall hello_rows words.now }
+        ensures runs { Runs (type_of hellotype) (hello_says (C.told ctx.old).seen (own words.now))
+            result
+            (scene (plain_state self.old.tally.made self.old.tally.freed) (C.told ctx.old))
+            (scene (plain_state self.new.tally.made self.new.tally.freed) (C.told ctx.new)) }
+        ensures holds { C.held ctx.new ≡ C.held ctx.old }
+        ensures made { self.new.tally.made ≤ self.old.tally.made + 1 }
+    {
         let own = own(alloc, words)?;
         let name = word_at(&own.words, 0);
         if name == b"HELLOTYPE.INSERT".as_slice() {
@@ -325,6 +338,7 @@ impl Module for HelloType {
             (λ l. shown l.numbers) old result
             (plain_state self.old.tally.made self.old.tally.freed)
             (plain_state self.new.tally.made self.new.tally.freed) }
+        ensures made { self.new.tally.made ≤ self.old.tally.made + 1 }
     {
         let Some(n) = to_insert(words) else {
             return Err(ApplyStop::Bad(old));
@@ -384,36 +398,61 @@ impl Module for HelloType {
     fn reply<C: Context<HelloList>>(
         &mut self,
         _alloc: Global,
-        _ctx: &mut C,
+        ctx: &mut C,
         _payload: &Blob,
-    ) -> Result<Reply, Stop> {
+    ) -> Result<Reply, Stop>
+        ensures runs { Runs (type_of hellotype) (answers_only Reply.Null (C.told ctx.old).seen) result
+            (scene (plain_state self.old.tally.made self.old.tally.freed) (C.told ctx.old))
+            (scene (plain_state self.new.tally.made self.new.tally.freed) (C.told ctx.new)) }
+        ensures holds { C.held ctx.new ≡ C.held ctx.old }
+        ensures same { self.new ≡ self.old }
+    {
         Ok(Reply::Null)
     }
 
     fn timed_out<C: Context<HelloList>>(
         &mut self,
         _alloc: Global,
-        _ctx: &mut C,
+        ctx: &mut C,
         _job: &Blob,
-    ) -> Result<Reply, Stop> {
+    ) -> Result<Reply, Stop>
+        ensures runs { Runs (type_of hellotype) (answers_only Reply.Null (C.told ctx.old).seen) result
+            (scene (plain_state self.old.tally.made self.old.tally.freed) (C.told ctx.old))
+            (scene (plain_state self.new.tally.made self.new.tally.freed) (C.told ctx.new)) }
+        ensures holds { C.held ctx.new ≡ C.held ctx.old }
+        ensures same { self.new ≡ self.old }
+    {
         Ok(Reply::Null)
     }
 
     fn gone<C: Context<HelloList>>(
         &mut self,
         _alloc: Global,
-        _ctx: &mut C,
+        ctx: &mut C,
         _job: &Blob,
-    ) -> Result<(), Stop> {
+    ) -> Result<(), Stop>
+        ensures runs { Runs (type_of hellotype) (answers_only tt (C.told ctx.old).seen) result
+            (scene (plain_state self.old.tally.made self.old.tally.freed) (C.told ctx.old))
+            (scene (plain_state self.new.tally.made self.new.tally.freed) (C.told ctx.new)) }
+        ensures holds { C.held ctx.new ≡ C.held ctx.old }
+        ensures same { self.new ≡ self.old }
+    {
         Ok(())
     }
 
     fn section<C: Context<HelloList>>(
         &mut self,
         alloc: Global,
-        _ctx: &mut C,
-        _op: &Blob,
-    ) -> Result<Blob, Stop> {
+        ctx: &mut C,
+        op: &Blob,
+    ) -> Result<Blob, Stop>
+        requires { IsString op.now }
+        ensures runs { Runs (type_of hellotype) (answers_only [] (C.told ctx.old).seen) result
+            (scene (plain_state self.old.tally.made self.old.tally.freed) (C.told ctx.old))
+            (scene (plain_state self.new.tally.made self.new.tally.freed) (C.told ctx.new)) }
+        ensures holds { C.held ctx.new ≡ C.held ctx.old }
+        ensures same { self.new ≡ self.old }
+    {
         Ok(Blob::new(alloc))
     }
 

@@ -1,22 +1,24 @@
 //! wordcount: a key has words with counts.
 
-ghost use Rattle.std.specs.Prelude.{◌≡◌, ◌+◌, ◌-◌, ◌^◌, ◌<◌, ◌++◌, ◌&&◌, is_some, true, refl, [], ◌∷◌, length, IfOk, IfErr, IfSome, IsSome, OnOk, OnErr, Some, None};
+ghost use Rattle.std.specs.Prelude.{◌≡◌, ◌+◌, ◌-◌, ◌^◌, ◌<◌, ◌≤◌, ◌++◌, ◌&&◌, is_some, true, refl, [], ◌∷◌, length, IfOk, IfErr, IfSome, IsSome, OnOk, OnErr, Some, None};
 ghost use Rattle.std.specs.Option.{is_none, option_map};
 ghost use Rattle.core_types.specs.Keys.{value_at};
 ghost use Rattle.core_types.specs.Keyspace.{IsString};
 ghost use Rattle.core_types.specs.Done.{word};
 ghost use Rattle.byte_text.specs.Number.{i64_of};
 ghost use Rattle.module_laws.specs.Applying.{Applies, saved_of};
+ghost use Rattle.module_laws.specs.Laws.{IsCall};
 ghost use Rattle.module_laws.specs.Limits.{IsSmallEffect, IsWithinLimits};
 ghost use Rattle.module_laws.specs.Meaning.{type_of};
 ghost use Rattle.module_laws.specs.Replay.{with_after};
 ghost use Rattle.module_laws.specs.Runs.{Runs, scene};
 ghost use Rattle.module_laws.specs.Told.{with_keys, with_native};
-ghost use Rattle.module_laws.specs.inner.Plain.{plain_state};
+ghost use Rattle.module_laws.specs.inner.Plain.{answers_only, plain_state};
 ghost use Rattle.mod_samples.specs.Changes.{leaves, with_notes};
 ghost use Rattle.mod_samples.specs.CountParts.{saved_counts};
 ghost use Rattle.mod_samples.specs.Counts.{count_at, counted, is_count, some_counts, with_count, without_word};
-ghost use Rattle.mod_samples.specs.WordCount.{adds, count_after, count_name, counts_at, counts_or_none, counts_shown, drop_notes, drops, gets, is_drop, positive, puts, set_words, sets, to_set, value_of, wordcount, words_at};
+ghost use Rattle.mod_samples.specs.WordCount.{adds, count_after, count_name, count_rows, count_says, counts_at, counts_or_none, counts_shown, drop_notes, drops, gets, is_drop, positive, puts, set_words, sets, to_set, value_of, wordcount, words_at};
+ghost use Rattle.mod_samples.specs.Words.{own};
 ghost use Rattle.mod_samples.specs.inner.States.{count_state};
 ghost use Rattle.mod_samples.specs.inner.CountLaws.{count_lawful, count_reads_back};
 
@@ -292,6 +294,7 @@ impl WordCount {
             (scene (plain_state self.old.tally.made self.old.tally.freed) (C.told ctx.old))
             (scene (plain_state self.new.tally.made self.new.tally.freed) (C.told ctx.new)) }
         ensures holds { C.held ctx.new ≡ C.held ctx.old }
+        ensures made { self.new.tally.made ≤ self.old.tally.made + 1 }
     {
         let counts = Counts::one(alloc, word, n)?;
         let value = self.make(counts)?;
@@ -325,6 +328,7 @@ impl WordCount {
             (scene (plain_state self.old.tally.made self.old.tally.freed) (C.told ctx.old))
             (scene (plain_state self.new.tally.made self.new.tally.freed) (C.told ctx.new)) }
         ensures holds { C.held ctx.new ≡ C.held ctx.old }
+        ensures made { self.new.tally.made ≤ self.old.tally.made + 1 }
     {
         match ctx.kind(key) {
             None => self.put(alloc, ctx, key, word, n),
@@ -352,6 +356,7 @@ impl WordCount {
             (scene (plain_state self.old.tally.made self.old.tally.freed) (C.told ctx.old))
             (scene (plain_state self.new.tally.made self.new.tally.freed) (C.told ctx.new)) }
         ensures holds { C.held ctx.new ≡ C.held ctx.old }
+        ensures made { self.new.tally.made ≤ self.old.tally.made + 1 }
     {
         let key = word_at(&effect.words, 1);
         self.store(alloc, ctx, key, word_at(&effect.words, 2), n)?;
@@ -373,6 +378,7 @@ impl WordCount {
             (scene (plain_state self.old.tally.made self.old.tally.freed) (C.told ctx.old))
             (scene (plain_state self.new.tally.made self.new.tally.freed) (C.told ctx.new)) }
         ensures holds { C.held ctx.new ≡ C.held ctx.old }
+        ensures made { self.new.tally.made ≤ self.old.tally.made + 1 }
     {
         let key = word_at(words, 1);
         let word = word_at(words, 2);
@@ -401,6 +407,7 @@ impl WordCount {
             (scene (plain_state self.old.tally.made self.old.tally.freed) (C.told ctx.old))
             (scene (plain_state self.new.tally.made self.new.tally.freed) (C.told ctx.new)) }
         ensures holds { C.held ctx.new ≡ C.held ctx.old }
+        ensures made { self.new.tally.made ≤ self.old.tally.made + 1 }
     {
         let Some(n) = positive(word_at(&own.words, 3)) else {
             return Ok(refuse(alloc, Refusal::NotAnInteger)?);
@@ -450,11 +457,12 @@ impl WordCount {
         n: u64,
     ) -> Result<Option<WordCounts>, ApplyStop<WordCounts>>
         requires { is_count n ≡ true }
-        ensures { Applies (Some (value_of (with_count word.now n
+        ensures applies { Applies (Some (value_of (with_count word.now n
             (counts_or_none (saved_of (λ w. counts_shown w.counts) old)))))
             (λ w. counts_shown w.counts) old result
             (plain_state self.old.tally.made self.old.tally.freed)
             (plain_state self.new.tally.made self.new.tally.freed) }
+        ensures made { self.new.tally.made ≤ self.old.tally.made + 1 }
     {
         let Some(mut value) = old else {
             return match Counts::one(alloc, word, n) {
@@ -504,7 +512,15 @@ impl Module for WordCount {
         alloc: Global,
         ctx: &mut C,
         words: &Args,
-    ) -> Result<Verdict, Stop> {
+    ) -> Result<Verdict, Stop>
+        requires { IsCall count_rows words.now }
+        ensures runs { Runs (type_of wordcount) (count_says (C.told ctx.old).seen (own words.now))
+            result
+            (scene (plain_state self.old.tally.made self.old.tally.freed) (C.told ctx.old))
+            (scene (plain_state self.new.tally.made self.new.tally.freed) (C.told ctx.new)) }
+        ensures holds { C.held ctx.new ≡ C.held ctx.old }
+        ensures made { self.new.tally.made ≤ self.old.tally.made + 1 }
+    {
         let own = own(alloc, words)?;
         let name = word_at(&own.words, 0);
         if name == b"WORDCOUNT.ADD".as_slice() {
@@ -529,6 +545,7 @@ impl Module for WordCount {
             (λ w. counts_shown w.counts) old result
             (plain_state self.old.tally.made self.old.tally.freed)
             (plain_state self.new.tally.made self.new.tally.freed) }
+        ensures made { self.new.tally.made ≤ self.old.tally.made + 1 }
     {
         let word = word_at(words, 2);
         if let Some(n) = to_set(words) {
@@ -587,36 +604,61 @@ impl Module for WordCount {
     fn reply<C: Context<WordCounts>>(
         &mut self,
         _alloc: Global,
-        _ctx: &mut C,
+        ctx: &mut C,
         _payload: &Blob,
-    ) -> Result<Reply, Stop> {
+    ) -> Result<Reply, Stop>
+        ensures runs { Runs (type_of wordcount) (answers_only Reply.Null (C.told ctx.old).seen) result
+            (scene (plain_state self.old.tally.made self.old.tally.freed) (C.told ctx.old))
+            (scene (plain_state self.new.tally.made self.new.tally.freed) (C.told ctx.new)) }
+        ensures holds { C.held ctx.new ≡ C.held ctx.old }
+        ensures same { self.new ≡ self.old }
+    {
         Ok(Reply::Null)
     }
 
     fn timed_out<C: Context<WordCounts>>(
         &mut self,
         _alloc: Global,
-        _ctx: &mut C,
+        ctx: &mut C,
         _job: &Blob,
-    ) -> Result<Reply, Stop> {
+    ) -> Result<Reply, Stop>
+        ensures runs { Runs (type_of wordcount) (answers_only Reply.Null (C.told ctx.old).seen) result
+            (scene (plain_state self.old.tally.made self.old.tally.freed) (C.told ctx.old))
+            (scene (plain_state self.new.tally.made self.new.tally.freed) (C.told ctx.new)) }
+        ensures holds { C.held ctx.new ≡ C.held ctx.old }
+        ensures same { self.new ≡ self.old }
+    {
         Ok(Reply::Null)
     }
 
     fn gone<C: Context<WordCounts>>(
         &mut self,
         _alloc: Global,
-        _ctx: &mut C,
+        ctx: &mut C,
         _job: &Blob,
-    ) -> Result<(), Stop> {
+    ) -> Result<(), Stop>
+        ensures runs { Runs (type_of wordcount) (answers_only tt (C.told ctx.old).seen) result
+            (scene (plain_state self.old.tally.made self.old.tally.freed) (C.told ctx.old))
+            (scene (plain_state self.new.tally.made self.new.tally.freed) (C.told ctx.new)) }
+        ensures holds { C.held ctx.new ≡ C.held ctx.old }
+        ensures same { self.new ≡ self.old }
+    {
         Ok(())
     }
 
     fn section<C: Context<WordCounts>>(
         &mut self,
         alloc: Global,
-        _ctx: &mut C,
-        _op: &Blob,
-    ) -> Result<Blob, Stop> {
+        ctx: &mut C,
+        op: &Blob,
+    ) -> Result<Blob, Stop>
+        requires { IsString op.now }
+        ensures runs { Runs (type_of wordcount) (answers_only [] (C.told ctx.old).seen) result
+            (scene (plain_state self.old.tally.made self.old.tally.freed) (C.told ctx.old))
+            (scene (plain_state self.new.tally.made self.new.tally.freed) (C.told ctx.new)) }
+        ensures holds { C.held ctx.new ≡ C.held ctx.old }
+        ensures same { self.new ≡ self.old }
+    {
         Ok(Blob::new(alloc))
     }
 

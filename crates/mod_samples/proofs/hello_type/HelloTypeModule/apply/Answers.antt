@@ -22,4 +22,5 @@ returns-in-Ok-insert c =
         kept = tt;
         spent = tt;
       };
+      made = omega arith;
     })

@@ -26,11 +26,8 @@ returns-in-NumbersSpent-clause-runs g c =
     c.in-Err.ensures.err (ap (λ s. s.made) c.free.ensures.freed ∙ c.in_ok-value.ensures.ok) (ap (λ s. s.freed) c.free.ensures.freed ∙ ap (λ f. f + 1) c.make.ensures.freed)
     (λ ends. subst (MayRefuse old) c.in-NumbersSpent.is c.in-Err.ensures.back.1)
 
-pub returns-in_default : goal.returns-in_default
-returns-in_default g c =
+pub returns-in_default-clause-runs : goal.returns-in_default-clause-runs
+returns-in_default-clause-runs g c =
     let old = g.C.Context.told c.args.ctx.now in let new = g.C.Context.told c.set_native.new.self in
-    record {
-      runs = refused (type_of wordcount) _ stop.Memory old new c.args.self.now.tally.made c.free.new.self.tally.made c.args.self.now.tally.freed c.free.new.self.tally.freed
-          c.in-Err.ensures.err (ap (λ s. s.made) c.free.ensures.freed ∙ c.in_ok-value.ensures.ok) (ap (λ s. s.freed) c.free.ensures.freed ∙ ap (λ f. f + 1) c.make.ensures.freed) (λ ends. cc);
-      holds = c.set_native.ensures.holds;
-    }
+    refused (type_of wordcount) _ stop.Memory old new c.args.self.now.tally.made c.free.new.self.tally.made c.args.self.now.tally.freed c.free.new.self.tally.freed
+    c.in-Err.ensures.err (ap (λ s. s.made) c.free.ensures.freed ∙ c.in_ok-value.ensures.ok) (ap (λ s. s.freed) c.free.ensures.freed ∙ ap (λ f. f + 1) c.make.ensures.freed) (λ ends. cc)

@@ -21,6 +21,7 @@ returns-then-not-drops_one c =
         kept = record { made = omega arith; freed = omega arith; balance = omega arith };
         spent = tt;
       };
+      made = omega arith;
     })
 
 pub remove-requires : goal.remove-requires
@@ -46,4 +47,5 @@ returns c =
         kept = tt;
         spent = tt;
       };
+      made = omega arith;
     })
