@@ -68,12 +68,14 @@ found_finds replay f keys files there stands = record {
   imported = not_imported f;
 }
 
+-- the bytes of the log that is opened stand for the keys
+log_stands : (replay : Meaning) (f : Found) (keys : Keys) → StandsFor replay f keys → Holds replay (log_of f) keys (length (log_of f))
+log_stands replay (found.Log bytes kept) keys stands = Holds-kept replay bytes keys kept stands
+log_stands replay found.Nothing keys stands = subst (λ (k : Keys). Holds replay [] k 0) (sym stands) (holds_none replay)
+
 -- a log that is safe stands for the keys
 kept_restarts : (replay : Meaning) (f : Found) (keys : Keys) (image : Files) → StandsFor replay f keys → image.log ≡ Some (log_of f) → Restarts replay image keys
-kept_restarts replay (found.Log bytes kept) keys image stands there =
-    log_restarts replay image (take kept bytes) (length (take kept bytes)) keys there (Holds-kept replay bytes keys kept stands)
-kept_restarts replay found.Nothing keys image stands there =
-    subst (λ (k : Keys). Restarts replay image k) (sym stands) (log_restarts replay image [] 0 no_keys there (holds_none replay))
+kept_restarts replay f keys image stands there = log_restarts replay image (log_of f) (length (log_of f)) keys there (log_stands replay f keys stands)
 
 safe_now : (P : Disk → Type 0) (told : Option Disk) (disk : Disk) → IfSome told P → told ≡ Some disk → P disk
 safe_now P None disk safe is = let e : None ≡ Some disk = is in absurd cc
@@ -86,6 +88,7 @@ module _ (replay : Meaning) (f : Found) (keys : Keys) (old mid : Told) (there : 
   pub has_opened : (new : Told) → Become (with_file Log (log_of f)) (files_told mid) (files_told new) → Now (IsSafe Log (log_of f)) new → HasOpened replay old new keys (opened_of f)
   has_opened new become safe = record {
     finds = found_finds replay f keys (files_told old) there stands;
+    stands = log_stands replay f keys stands;
     log = subst (λ (files : Option Files). Become (with_file Log (log_of f)) files (files_told new)) stayed become;
     safe = safe;
     images = λ image may. kept_restarts replay f keys image stands (safe_one Log (log_of f) may.disk image (safe_now (IsSafe Log (log_of f)) (disk_told new) may.disk safe may.tells) may.leaves);

@@ -9,7 +9,7 @@ use Rattle.disk_model.specs.Files.{Files, with_file, Become, Stay}
 use Rattle.disk_model.specs.Told.{Told, Now, files_told, disk_told}
 use Rattle.disk_model.specs.Runs.{MayLeave, SameDisk}
 use Rattle.disk_model.specs.Safe.{IsSafe}
-use Rattle.effect_log.specs.Replay.{Meaning}
+use Rattle.effect_log.specs.Replay.{Holds, Meaning}
 use Rattle.restart.specs.Restart.{Opening, Opens, Restarts, IsRefusedLog, HasDumpAlone}
 use Rattle.restart.specs.declared.opening.Opened.{Opened}
 use Rattle.restart.specs.declared.opening.OpenStop.{OpenStop}
@@ -32,10 +32,12 @@ pub record Finds (replay : Meaning) (files : Option Files) (keys : Keys) (opened
   pub imported : opened.imported ≡ false
 
 -- The log is opened: the directory stood for these keys, the log has its bytes without a torn unit,
--- and no other file changed. The log is safe, and whatever a crash now leaves restarts to the keys.
+-- which stand for the keys, told or not, and no other file changed. The log is safe, and whatever a
+-- crash now leaves restarts to the keys.
 pub record HasOpened (replay : Meaning) (old new : Told) (keys : Keys) (opened : Opened)
     : Type 0 where
   pub finds : Finds replay (files_told old) keys opened
+  pub stands : Holds replay finds.opening.log keys (length finds.opening.log)
   pub log : Become (with_file Log finds.opening.log) (files_told old) (files_told new)
   pub safe : Now (IsSafe Log finds.opening.log) new
   pub images : (image : Files) → MayLeave (disk_told new) image → Restarts replay image keys
