@@ -1,0 +1,9 @@
+pub mod Takes
+pub mod Appears
+pub mod Streams
+pub mod Texts
+pub mod Histories
+pub mod Running
+pub mod Opened
+pub mod Ends
+pub mod Hosts
