@@ -1,5 +1,5 @@
 -- Serves clauses well and wrong of `Parts::make`: each end of a step.
-use Rattle.std.proofs.Common.{◌≡◌, ◌≢◌, ◌≤◌, ◌<◌, refl, sym, ap, ap₂, subst, ◌∙◌, ℕ, ◌+◌, ◌-◌, ◌^◌, min, Bool, List, [], ◌∷◌, ◌++◌, length, take, length-append, append-nil, Option, Some, None, IfSome, arith, inl, inr}
+use Rattle.std.proofs.Common.{◌≡◌, ◌≢◌, ◌<◌, refl, sym, ap, ap₂, subst, ◌∙◌, ℕ, ◌+◌, ◌-◌, ◌^◌, min, Bool, List, [], ◌∷◌, ◌++◌, length, take, length-append, append-nil, Option, Some, None, IfSome, arith, inl, inr}
 use Rattle.std.specs.Option.{option_map, option_to_list}
 use Rattle.std.proofs.lemmas.List.{append_assoc}
 use Rattle.std.proofs.lemmas.Option.{none-some}
@@ -7,22 +7,20 @@ use Rattle.std.proofs.Math.Seq.{take-append_seam}
 use Rattle.core_types.specs.declared.stop.Cause.{Cause}
 use Rattle.core_types.specs.declared.stop.Cause.TheVariants as cause
 use Rattle.core_types.specs.declared.effect.Effect.{Effect}
-use Rattle.core_types.specs.declared.event.Answer.{Answer}
 use Rattle.core_types.specs.declared.event.Answer.TheVariants as answer
 use Rattle.core_types.specs.declared.event.Event.{Event}
 use Rattle.core_types.specs.declared.event.Event.TheVariants as event
-use Rattle.disk_model.specs.Disk.{Disk, reads}
-use Rattle.disk_model.specs.Files.{Files, HasFew, IsSmall, file}
+use Rattle.disk_model.specs.Files.{Files, HasFew, IsSmall}
 use Rattle.disk_model.specs.Past.{Call, Made, Outcome, Past, disk_now, files_now, with_calls}
 use Rattle.disk_model.specs.Runs.{GoesOnBy, LeavesOnly, MayLeave}
 use Rattle.disk_model.specs.Safe.{IsSafeUpTo}
-use Rattle.disk_model.specs.Told.{Told, Fails, Goes, Now, Was, disk_told, files_told}
+use Rattle.disk_model.specs.Told.{Told, Fails, Goes, disk_told, files_told}
 use Rattle.disk_model.specs.declared.file_name.FileName.TheVariants.{Log}
 use Rattle.disk_model.proofs.Failures.{sync_stays, was_done, was_failed}
 use Rattle.disk_model.proofs.Moments as moments
 use Rattle.disk_model.proofs.Safe.{safe_reads}
 use Rattle.effect_log.specs.Unit.{unit}
-use Rattle.client_book.specs.Register.{Register, frees_all, listed}
+use Rattle.client_book.specs.Register.{frees_all, listed}
 use Rattle.host_core.specs.Clients.{client_at}
 use Rattle.host_core.specs.Core.{Held, IsServable, state_of}
 use Rattle.host_core.specs.Events.{step}
@@ -32,16 +30,15 @@ use Rattle.client_book.specs.declared.client.Client.{Client}
 use Rattle.durable_host.specs.Crash.{HoldsFrom}
 use Rattle.durable_host.specs.Host.{HasLength, KeepsHistory}
 use Rattle.durable_host.specs.Kept.{Kept, event_count, state_after, state_now, with_event}
-use Rattle.durable_host.specs.Steps.{AppendFails, ClientsOrNext, FailsAt, Frees, Happens, IsTakable, KeepsOutboxes, appends, calls_made, changes_by, kept_if_begun, safe_after}
+use Rattle.durable_host.specs.Steps.{AppendFails, ClientsOrNext, FailsAt, Frees, IsTakable, KeepsOutboxes, appends, calls_made, changes_by, kept_if_begun, safe_after}
 use Rattle.durable_host.specs.Taking.{IsButTaken, IsFreed, SameButTaken}
 use Rattle.durable_host.specs.declared.computing.Computed.{Computed}
-use Rattle.durable_host.specs.declared.fault.HostFault.{HostFault}
 use Rattle.durable_host.specs.declared.fault.HostFault.TheVariants as fault
 use Rattle.durable_host.specs.declared.parts.Parts.{Parts}
 use Rattle.durable_host.specs.inner.Making.{Computes, GoesWell, GoesWrong, IsLogged}
 use Rattle.durable_host.specs.inner.Running.{AreFronts, IsHistory, IsRunning, LogHolds, kept_of, seen}
 use Rattle.durable_host.proofs.Histories.{added_next, added_text, after_next, all_after, count_next, joined_now, log_images, next_history, state_next, synced_next, synced_text}
-use Rattle.durable_host.proofs.Running.{asked_append, asked_flush, asked_nothing, asked_sync, log_appended, log_flushed, log_same, stops_so, stops_with}
+use Rattle.durable_host.proofs.Running.{asked_append, asked_nothing, asked_sync, log_appended, log_flushed, log_same, stops_so, stops_with}
 use Rattle.durable_host.proofs.Streams.{flush_freed, flush_rolls, freed_fronts, keeps_freed, same_places}
 use Rattle.durable_host.proofs.Takes.{SameStep, same_step}
 

@@ -1,10 +1,8 @@
 -- Serves clauses kept and crash of `DurableHost::step`: the kept events, and one more.
-use Rattle.std.proofs.Common.{◌≡◌, ◌≤◌, ◌<◌, refl, sym, ap, subst, ◌∙◌, ℕ, zero, suc, ◌+◌, ◌-◌, ◌^◌, List, [], ◌∷◌, ◌++◌, length, take, drop, length-append, append-nil, length-drop, take_all, Some, Ok, arith}
+use Rattle.std.proofs.Common.{◌≡◌, ◌≤◌, ◌<◌, sym, ap, subst, ◌∙◌, ℕ, zero, suc, ◌+◌, ◌-◌, ◌^◌, List, [], ◌∷◌, ◌++◌, length, take, drop, length-append, length-drop, take_all, arith}
 use Rattle.std.specs.List.{AllByRecursion}
 use Rattle.std.proofs.lemmas.List.{append_assoc, drop-append-le, take-append-drop, take-append-le}
 use Rattle.std.proofs.Math.Seq.{drop-nil, take-add}
-use Rattle.core_types.specs.Keys.{Keys, no_keys}
-use Rattle.core_types.specs.Keyspace.{IsKeyspace}
 use Rattle.core_types.specs.declared.effect.Effect.{Effect}
 use Rattle.core_types.specs.declared.event.Event.{Event}
 use Rattle.disk_model.specs.Files.{Files}
@@ -30,7 +28,7 @@ use Rattle.host_core.proofs.Steps.{stay_joined}
 use Rattle.durable_host.specs.Crash.{HoldsFrom}
 use Rattle.durable_host.specs.Kept.{Kept, changes_of, event_count, state_after, state_now, with_event}
 use Rattle.durable_host.specs.inner.Running.{IsHistory, LogHolds, any_native, text_from}
-use Rattle.durable_host.proofs.Texts.{StandsAfter, after_all, cut_short, text_join, text_none, text_one}
+use Rattle.durable_host.proofs.Texts.{after_all, cut_short, text_join, text_none, text_one}
 
 split_front : {X : Type 0} (P : X → Type 0) (xs ys : List X) → AllByRecursion P (xs ++ ys) → AllByRecursion P xs
 split_front P [] ys all = tt

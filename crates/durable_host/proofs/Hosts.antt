@@ -1,19 +1,17 @@
 -- Serves the clauses of `DurableHost`: the parts of a host, seen as the host.
-use Rattle.std.proofs.Common.{◌≡◌, ◌≤◌, refl, sym, ap, subst, ◌∙◌, ℕ, ◌+◌, ◌-◌, Bool, false, List, ◌++◌, length, take, drop, length-take-le, take-take, Option, Some, None, IfSome, arith, inl, inr}
+use Rattle.std.proofs.Common.{◌≡◌, ◌≤◌, refl, sym, ap, subst, ◌∙◌, ℕ, ◌+◌, Bool, false, List, ◌++◌, length, take, drop, length-take-le, take-take, Option, Some, None, IfSome, arith, inl, inr}
 use Rattle.std.specs.Option.{option_map}
 use Rattle.std.proofs.lemmas.List.{take-append-le}
 use Rattle.std.proofs.lemmas.Option.{none-some}
 use Rattle.core_types.specs.declared.stop.Cause.{Cause}
 use Rattle.core_types.specs.declared.stop.Stop.TheVariants as stop
-use Rattle.disk_model.specs.Disk.{Disk}
-use Rattle.disk_model.specs.Files.{Files, file}
 use Rattle.disk_model.specs.Past.{Past, disk_now, files_now}
 use Rattle.disk_model.specs.Safe.{IsSafeUpTo}
-use Rattle.disk_model.specs.Told.{Told, disk_told, files_told}
+use Rattle.disk_model.specs.Told.{Told, files_told}
 use Rattle.disk_model.specs.declared.file_name.FileName.TheVariants.{Log}
 use Rattle.disk_model.proofs.Safe.{safe_reads}
 use Rattle.effect_log.specs.Replay.{Holds}
-use Rattle.restart.specs.OpenLog.{HasOpened, IsPartlyOpen, OpenStops}
+use Rattle.restart.specs.OpenLog.{HasOpened, OpenStops}
 use Rattle.restart.specs.Restart.{Restarts}
 use Rattle.restart.specs.declared.opening.OpenStop.{OpenStop}
 use Rattle.restart.specs.declared.opening.OpenStop.TheVariants as stops
@@ -24,13 +22,11 @@ use Rattle.core_types.specs.Keys.{Keys}
 use Rattle.client_book.specs.Client.{passes}
 use Rattle.client_book.specs.Register.{changes, free_of, listed, told_of}
 use Rattle.host_core.specs.Clients.{client_at}
-use Rattle.host_core.specs.Core.{Held, state_of}
 use Rattle.host_core.specs.Replay.{replay}
-use Rattle.host_core.specs.State.{State}
 use Rattle.durable_host.specs.Host.{HandsOut, Host, KeepsHistory}
-use Rattle.durable_host.specs.Kept.{Kept, state_after, state_now}
+use Rattle.durable_host.specs.Kept.{state_after, state_now}
 use Rattle.durable_host.specs.Starts.{StartStops}
-use Rattle.durable_host.specs.Taking.{SameButTaken, stream_between, taken_of}
+use Rattle.durable_host.specs.Taking.{stream_between, taken_of}
 use Rattle.durable_host.specs.declared.parts.Parts.{Parts}
 use Rattle.durable_host.specs.inner.Running.{IsRunning, IsSound, kept_of, seen}
 use Rattle.durable_host.proofs.Histories.{added_text, after_all_parts, synced_text}

@@ -1,19 +1,19 @@
 -- Serves clauses begins and kept of `DurableHost::start`: the parts of a host that begins.
 use Rattle.std.specs.Prelude.{⊤}
-use Rattle.std.proofs.Common.{◌≡◌, ◌≤◌, ◌<◌, refl, sym, ap, subst, ◌∙◌, ℕ, ◌^◌, true, List, [], ◌∷◌, ◌++◌, length, append-nil, Option, Some, None, IfSome, Result, Ok, Err, arith}
-use Rattle.std.specs.List.{AllByRecursion, flat_map}
+use Rattle.std.proofs.Common.{◌≡◌, refl, sym, ap, subst, ◌∙◌, ℕ, List, [], ◌∷◌, length, append-nil, Option, Some, None, IfSome, Result, Ok, Err, arith}
+use Rattle.std.specs.List.{AllByRecursion}
 use Rattle.std.specs.Option.{option_map}
 use Rattle.std.specs.Cmp.Lexicographic.{slice_cmp}
 use Rattle.std.specs.Ordering.{nat_cmp}
 use Rattle.std.specs.FinMap.{get-empty}
 use Rattle.std.proofs.lemmas.Option.{none-some}
-use Rattle.core_types.specs.Keys.{Entry, Keys, Native, entry_at, no_keys}
+use Rattle.core_types.specs.Keys.{Keys, no_keys}
 use Rattle.core_types.specs.Keyspace.{IsKeyspace}
 use Rattle.core_types.specs.declared.effect.Effect.{Effect}
 use Rattle.disk_model.specs.Disk.{Disk}
 use Rattle.disk_model.specs.Files.{Files, Become, with_file}
 use Rattle.disk_model.specs.Safe.{IsSafe, IsSafeUpTo}
-use Rattle.disk_model.specs.Told.{Told, Now, disk_told, files_told}
+use Rattle.disk_model.specs.Told.{Told, disk_told, files_told}
 use Rattle.disk_model.specs.declared.file_name.FileName.TheVariants.{Log}
 use Rattle.disk_model.proofs.Safe.{safe_up_to}
 use Rattle.effect_log.specs.Log.{IsUnit, Unit}

@@ -1,41 +1,36 @@
 -- Serves clauses happens, stops and kept of `DurableHost::step`: how each end of a step leaves the parts.
-use Rattle.std.proofs.Common.{◌≡◌, ◌≢◌, ◌≤◌, ◌<◌, refl, sym, ap, ap₂, subst, ◌∙◌, ℕ, ◌+◌, ◌-◌, ◌^◌, min, Bool, false, List, [], ◌∷◌, ◌++◌, length, take, length-append, append-nil, Option, Some, None, IfSome, IsSome, arith}
+use Rattle.std.proofs.Common.{◌≡◌, ◌<◌, refl, sym, ap, ap₂, subst, ◌∙◌, ℕ, ◌-◌, ◌^◌, Bool, List, [], ◌++◌, append-nil, Option, Some, None, IfSome, IsSome}
 use Rattle.std.specs.Option.{option_map}
 use Rattle.std.proofs.lemmas.List.{append_assoc}
 use Rattle.std.proofs.lemmas.Option.{none-some}
 use Rattle.disk_model.specs.Disk.{Disk}
-use Rattle.core_types.specs.declared.effect.Effect.{Effect}
-use Rattle.core_types.specs.declared.event.Answer.{Answer}
 use Rattle.core_types.specs.declared.event.Event.{Event}
 use Rattle.core_types.specs.declared.event.Event.TheVariants as event
 use Rattle.core_types.specs.declared.stop.Cause.{Cause}
-use Rattle.core_types.specs.declared.stop.Cause.TheVariants as cause
-use Rattle.disk_model.specs.Files.{Files, IsSmall, IsThere, file}
+use Rattle.disk_model.specs.Files.{Files, IsThere}
 use Rattle.disk_model.specs.Past.{Call, Outcome, Past, disk_now, files_now}
 use Rattle.disk_model.specs.Runs.{LeavesOnly, MayLeave}
 use Rattle.disk_model.specs.Safe.{HasFront, IsSafe, IsSafeUpTo}
-use Rattle.disk_model.specs.Told.{Told, Fails, Goes, Now, Was, disk_told, files_told}
+use Rattle.disk_model.specs.Told.{Told, Goes, Was, disk_told, files_told}
 use Rattle.disk_model.specs.declared.file_name.FileName.TheVariants.{Log}
-use Rattle.disk_model.proofs.Failures.{was_done, was_failed}
 use Rattle.disk_model.proofs.Moments as moments
 use Rattle.disk_model.proofs.Safe.{safe_reads, safe_up_to}
 use Rattle.disk_model.proofs.Stays.{append_leaves, appended, flushed, sync_leaves}
 use Rattle.effect_log.specs.Unit.{unit}
-use Rattle.client_book.specs.Register.{Register, frees_all, listed}
+use Rattle.client_book.specs.Register.{listed}
 use Rattle.host_core.specs.Clients.{client_at}
-use Rattle.host_core.specs.Core.{Held, IsServable, state_of}
+use Rattle.host_core.specs.Core.{IsServable}
 use Rattle.host_core.specs.Events.{step}
 use Rattle.host_core.specs.State.{State}
 use Rattle.durable_host.specs.Crash.{HoldsFrom}
 use Rattle.durable_host.specs.Host.{AreFreed, Host, KeepsHistory}
 use Rattle.durable_host.specs.Kept.{Kept, event_count, state_after, state_now, with_event}
 use Rattle.durable_host.specs.Steps.{KeepsOutboxes}
-use Rattle.durable_host.specs.Taking.{IsFreed, SameButTaken}
+use Rattle.durable_host.specs.Taking.{IsFreed}
 use Rattle.durable_host.specs.declared.parts.Parts.{Parts}
-use Rattle.durable_host.specs.inner.Running.{AreFronts, IsHistory, IsRunning, LogHolds, kept_of, seen, text_from}
-use Rattle.durable_host.proofs.Histories.{added_next, added_text, after_next, all_after, all_synced, front_holds, holds_further, log_images, next_history, none_added, state_next, synced_next, synced_text, text_parts}
-use Rattle.durable_host.proofs.Streams.{flush_freed, freed_fronts, keeps_freed}
-use Rattle.durable_host.proofs.Takes.{same_step}
+use Rattle.durable_host.specs.inner.Running.{IsHistory, IsRunning, LogHolds, kept_of, seen}
+use Rattle.durable_host.proofs.Histories.{added_next, added_text, after_next, all_synced, front_holds, holds_further, log_images, next_history, none_added, synced_next, synced_text, text_parts}
+use Rattle.durable_host.proofs.Streams.{keeps_freed}
 
 some_none : (why : Cause) → Some why ≡ None → ⊥
 some_none why is = none-some why (sym is)

@@ -1,5 +1,5 @@
 -- Serves clauses happens, stops and kept of `DurableHost::step`, and kept of `take_out`: what clients took and may take.
-use Rattle.std.proofs.Common.{◌≡◌, ◌≤◌, ◌<◌, refl, sym, ap, subst, ◌∙◌, ℕ, ◌+◌, ◌-◌, min, Bool, true, false, cond, List, [], ◌++◌, length, take, drop, length-append, length-drop, length-take, take-take, drop-drop, take_all, Option, Some, None, IfSome, IsSome, arith, inl, inr}
+use Rattle.std.proofs.Common.{◌≡◌, ◌≤◌, refl, sym, ap, subst, ◌∙◌, ℕ, ◌+◌, ◌-◌, Bool, true, false, cond, List, [], length, take, drop, length-append, length-drop, length-take, take-take, drop-drop, Option, Some, None, IfSome, IsSome, arith, inl, inr}
 use Rattle.std.specs.Option.{option_map}
 use Rattle.std.specs.Ordering.{nat_cmp, eq_by_cmp}
 use Rattle.std.specs.Cmp.{nat_cmp_total}
@@ -9,10 +9,10 @@ use Rattle.std.proofs.lemmas.List.{drop-take, take-append-le}
 use Rattle.std.proofs.Math.Seq.{take-nil}
 use Rattle.std.proofs.lemmas.Map.Lookups.{exact_unsigned}
 use Rattle.std.proofs.lemmas.Map.Views.{tells_apart}
-use Rattle.std.proofs.lemmas.Option.{none-some, same_Some}
+use Rattle.std.proofs.lemmas.Option.{none-some}
 use Rattle.core_types.specs.declared.event.Event.{Event}
 use Rattle.client_book.specs.Client.{new_client, passes}
-use Rattle.client_book.specs.Register.{IsFront, Listed, Register, changes, each, free_of, freed, frees_all, listed, on_record, put_if_there, roll_of, told_of}
+use Rattle.client_book.specs.Register.{IsFront, Listed, Register, changes, free_of, freed, frees_all, listed, on_record, put_if_there, roll_of, told_of}
 use Rattle.client_book.specs.declared.client.Client.{Client}
 use Rattle.client_book.proofs.Changing.{get-each}
 use Rattle.host_core.specs.Clients.{client_at}
@@ -23,7 +23,7 @@ use Rattle.host_core.specs.State.{State}
 use Rattle.host_core.proofs.Rolls.{roll_at}
 use Rattle.host_core.proofs.Steps.{tells}
 use Rattle.durable_host.specs.Steps.{KeepsOutboxes, KeepsPlace}
-use Rattle.durable_host.specs.Taking.{IsButTaken, IsFreed, SameButTaken, TookSome, free_bytes, stream_between, stream_end, stream_start, taken_of}
+use Rattle.durable_host.specs.Taking.{IsButTaken, IsFreed, SameButTaken, stream_between, stream_start, taken_of}
 use Rattle.durable_host.specs.inner.Running.{AreFronts}
 use Rattle.durable_host.proofs.Appears.{appears}
 

@@ -1,5 +1,5 @@
 -- Serves clauses happens and kept of `DurableHost::step`: what clients took, a step does not look at.
-use Rattle.std.proofs.Common.{◌≡◌, ◌≤◌, refl, sym, ap, subst, ◌∙◌, ℕ, ◌+◌, Bool, true, false, cond, if◌then◌else◌, nat_le, List, [], ◌∷◌, ◌++◌, length, length-append, Option, Some, None, arith}
+use Rattle.std.proofs.Common.{◌≡◌, ◌≤◌, refl, sym, ap, subst, ◌∙◌, ℕ, ◌+◌, Bool, true, false, cond, if◌then◌else◌, nat_le, List, [], length, length-append, Option, Some, None, arith}
 use Rattle.std.specs.Option.{option_map}
 use Rattle.std.specs.Ordering.{nat_cmp, eq_by_cmp}
 use Rattle.std.specs.Cmp.{nat_cmp_total}
@@ -8,7 +8,6 @@ use Rattle.std.proofs.lemmas.List.{drop-append-le}
 use Rattle.core_types.specs.CommandRow.{takes}
 use Rattle.core_types.specs.Done.{word}
 use Rattle.core_types.specs.Keys.{Keys}
-use Rattle.core_types.specs.declared.effect.Effect.{Effect}
 use Rattle.core_types.specs.declared.event.Answer.{Answer}
 use Rattle.core_types.specs.declared.event.Answer.TheVariants as answer
 use Rattle.core_types.specs.declared.event.Event.{Event}
@@ -28,7 +27,7 @@ use Rattle.host_core.specs.Events.{client_goes, refused_stream, step}
 use Rattle.host_core.specs.Serving.{quits, served, served_as, served_by}
 use Rattle.host_core.specs.State.{Served, State, Step, answers, becomes, stays}
 use Rattle.host_core.proofs.Replies.{at_changed, last_changed}
-use Rattle.durable_host.specs.Taking.{IsButTaken, SameButTaken, TookSome}
+use Rattle.durable_host.specs.Taking.{IsButTaken, SameButTaken}
 
 abbrev is_same : ℕ → ℕ → Bool
 is_same = eq_by_cmp nat_cmp

@@ -1,19 +1,15 @@
 -- Serves clauses kept and crash of `DurableHost::step`: what the log of a history stands for.
-use Rattle.std.proofs.Common.{◌≡◌, ◌≤◌, ◌<◌, refl, sym, ap, subst, ◌∙◌, ℕ, zero, suc, ◌+◌, ◌-◌, min, List, [], ◌∷◌, ◌++◌, length, take, drop, length-append, append-nil, Some, Result, Ok, Err, arith, ◌⊎◌, inl, inr}
+use Rattle.std.proofs.Common.{◌≡◌, ◌≤◌, ◌<◌, refl, sym, ap, subst, ◌∙◌, ℕ, zero, suc, ◌+◌, ◌-◌, List, [], ◌∷◌, ◌++◌, length, take, append-nil, arith, ◌⊎◌, inl, inr}
 use Rattle.std.specs.List.{AllByRecursion}
 use Rattle.std.proofs.lemmas.Bool.{cases_lt}
 use Rattle.std.proofs.lemmas.List.{append_assoc, take-append-le}
 use Rattle.std.proofs.lemmas.List.Concat.{flat_map-append}
 use Rattle.std.proofs.Math.Seq.{take-append-add, take-nil}
-use Rattle.core_types.specs.Keys.{Keys}
-use Rattle.core_types.specs.declared.effect.Effect.{Effect}
 use Rattle.core_types.specs.declared.event.Event.{Event}
-use Rattle.effect_log.specs.Refusal.{Refusal}
-use Rattle.effect_log.specs.Replay.{Holds, and_then, replayed}
+use Rattle.effect_log.specs.Replay.{Holds, replayed}
 use Rattle.effect_log.specs.Unit.{IsLoggable, unit}
 use Rattle.effect_log.specs.Written.{AreLoggable, effects_in, log_text}
 use Rattle.effect_log.proofs.GoesOn.{Holds-more, Holds-torn}
-use Rattle.effect_log.proofs.Replays.{replayed-on}
 use Rattle.host_core.specs.Events.{step}
 use Rattle.host_core.specs.Fold as fold
 use Rattle.host_core.specs.Replay.{replay}

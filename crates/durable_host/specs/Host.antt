@@ -1,5 +1,5 @@
 -- What a host is seen as, and what holds of it at every moment between two calls.
-use Rattle.std.specs.Prelude.{refl, ◌≡◌, ◌<◌, ◌≤◌, ◌+◌, ◌^◌, ℕ, Bool, List, length, Option, Some, None, IfSome}
+use Rattle.std.specs.Prelude.{refl, ◌≡◌, ◌<◌, ◌≤◌, ◌+◌, ◌^◌, ℕ, Bool, List, length, Option, None, IfSome}
 use Rattle.std.specs.Coded.{Coded, code_by, coded×, coded_bool, coded_list, coded_option, coded_ℕ}
 use Rattle.core_types.specs.contracts.event.Event as event
 use Rattle.core_types.specs.contracts.stop.Cause as cause

@@ -1,5 +1,5 @@
 -- The history that a host keeps: the state that it began from, and the events since.
-use Rattle.std.specs.Prelude.{refl, ℕ, ◌+◌, ◌-◌, List, [], ◌∷◌, ◌++◌, length, take}
+use Rattle.std.specs.Prelude.{ℕ, ◌+◌, ◌-◌, List, [], ◌∷◌, ◌++◌, length, take}
 use Rattle.core_types.specs.declared.effect.Effect.{Effect}
 use Rattle.core_types.specs.declared.event.Event.{Event}
 use Rattle.host_core.specs.Events.{step}

@@ -1,5 +1,5 @@
 -- What starting a host finds and leaves.
-use Rattle.std.specs.Prelude.{◌≡◌, ℕ, false, Option, Some, None, Result, Ok, Err}
+use Rattle.std.specs.Prelude.{◌≡◌, ℕ, false, None, Result, Ok, Err}
 use Rattle.core_types.specs.Causes.{one_more}
 use Rattle.core_types.specs.Keys.{Keys}
 use Rattle.core_types.specs.declared.stop.Stop.TheVariants as stop

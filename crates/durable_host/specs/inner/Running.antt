@@ -1,5 +1,5 @@
 -- What holds of the parts of a host: while it runs, and once it has stopped.
-use Rattle.std.specs.Prelude.{◌≡◌, ◌<◌, ◌≤◌, ◌-◌, ◌^◌, ⊤, true, false, ℕ, Bool, List, ◌++◌, length, take, drop, Option, Some, None, IfSome}
+use Rattle.std.specs.Prelude.{◌<◌, ◌≤◌, ◌-◌, ◌^◌, true, false, ℕ, Bool, List, ◌++◌, length, take, drop, Option, Some, None, IfSome}
 use Rattle.core_types.specs.Keys.{Native}
 use Rattle.core_types.specs.Keyspace.{IsKeyspace}
 use Rattle.core_types.specs.declared.event.Event.{Event}
@@ -10,7 +10,7 @@ use Rattle.disk_model.specs.declared.file_name.FileName.TheVariants.{Log}
 use Rattle.effect_log.specs.Replay.{Holds}
 use Rattle.effect_log.specs.Written.{AreLoggable, log_text}
 use Rattle.client_book.specs.Register.{IsFront, Register, listed}
-use Rattle.host_core.specs.Core.{Held, state_of}
+use Rattle.host_core.specs.Core.{state_of}
 use Rattle.host_core.specs.Events.{step}
 use Rattle.host_core.specs.Fold as fold
 use Rattle.host_core.specs.Laws.{AllJoined}

@@ -1,5 +1,5 @@
 -- Serves clauses stop and crash of `load`.
-use Rattle.std.proofs.Common.{refl, false, Err, ap, ◌∙◌}
+use Rattle.std.proofs.Common.{refl, Err, ap, ◌∙◌}
 use Rattle.std.proofs.lemmas.Bool.{false≢true}
 use Rattle.std.proofs.lemmas.Result.{err_from_is_err_and}
 use Rattle.disk_model.specs.Told.{disk_told}

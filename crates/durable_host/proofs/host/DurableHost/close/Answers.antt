@@ -1,5 +1,5 @@
 -- Serves clauses kept and keys of `DurableHost::close`.
-use Rattle.std.proofs.Common.{subst, sym, ap, ◌∙◌, ◌≡◌, None, IfSome}
+use Rattle.std.proofs.Common.{subst, ap, ◌∙◌, ◌≡◌, None, IfSome}
 use Rattle.disk_model.specs.Told.{files_told}
 use Rattle.restart.specs.Restart.{Restarts}
 use Rattle.host_core.specs.Replay.{replay}

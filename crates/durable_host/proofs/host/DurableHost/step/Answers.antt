@@ -1,7 +1,7 @@
 -- Serves the clauses of `DurableHost::step`.
 use Rattle.std.proofs.Common.{refl, sym, ap, subst, ◌∙◌, false, Some, None}
 use Rattle.durable_host.specs.Crash.{HoldsFrom}
-use Rattle.durable_host.specs.Host.{Host, KeepsHistory}
+use Rattle.durable_host.specs.Host.{KeepsHistory}
 use Rattle.durable_host.specs.Kept.{with_event}
 use Rattle.durable_host.specs.Steps.{Happens}
 use Rattle.durable_host.specs.inner.Running.{seen}

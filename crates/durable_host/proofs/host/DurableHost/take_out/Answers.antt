@@ -1,10 +1,8 @@
 -- Serves clauses moved and kept of `DurableHost::take_out`.
-use Rattle.std.proofs.Common.{refl, sym, ap, subst, ◌∙◌, ◌≤◌, ◌≡◌, ℕ, List, ◌++◌, min, length, take, drop, arith}
-use Rattle.client_book.specs.Client.{passes}
-use Rattle.client_book.specs.Register.{changes, free_of, listed, told_of}
-use Rattle.durable_host.specs.Host.{Host, KeepsHistory, HandsOut}
-use Rattle.durable_host.specs.inner.Running.{IsSound, seen}
-use Rattle.durable_host.specs.declared.parts.Parts.{Parts}
+use Rattle.std.proofs.Common.{subst, ◌≤◌, take, arith}
+use Rattle.client_book.specs.Register.{free_of, listed}
+use Rattle.durable_host.specs.Host.{HandsOut}
+use Rattle.durable_host.specs.inner.Running.{seen}
 use Rattle.durable_host.proofs.Hosts.{front_moved, hands_out, sound_keeps, takes_sound}
 use Rattle.durable_host.proofs.host.DurableHost.take_out.Goals as goal
 

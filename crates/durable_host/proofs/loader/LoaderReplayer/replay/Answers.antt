@@ -1,8 +1,4 @@
 -- Serves clause refused of a loader's replay.
-use Rattle.std.proofs.Common.{ap}
-use Rattle.core_types.specs.Keys.{Keys}
-use Rattle.effect_log.specs.Replay.{Refuses}
-use Rattle.host_core.specs.Replay.{replay}
 use Rattle.durable_host.proofs.loader.LoaderReplayer.replay.Goals as goal
 
 pub returns-clause-refused : goal.returns-clause-refused

@@ -1,5 +1,5 @@
 -- Serves clauses well, wrong and crash of `Parts::flush`.
-use Rattle.std.proofs.Common.{refl, sym, ap, ◌∙◌, inl, arith, length, length-append, [], ◌∷◌}
+use Rattle.std.proofs.Common.{refl, ap, ◌∙◌, inl, arith, length, length-append, [], ◌∷◌}
 use Rattle.std.proofs.lemmas.Result.{err_from_is_err_and}
 use Rattle.core_types.specs.declared.event.Event.TheVariants as event
 use Rattle.disk_model.specs.Past.{Call}

@@ -1,5 +1,5 @@
 -- Serves clauses wrong and crash of `Parts::make`.
-use Rattle.std.proofs.Common.{refl, sym, ap, ◌∙◌, inl, arith}
+use Rattle.std.proofs.Common.{refl, inl, arith}
 use Rattle.durable_host.specs.inner.Running.{kept_of}
 use Rattle.durable_host.proofs.Ends.{wrong_numbers}
 use Rattle.durable_host.proofs.Running.{asked_nothing}

@@ -1,6 +1,5 @@
 -- Serves clauses begins and running of `Parts::open`.
-use Rattle.std.proofs.Common.{refl, ap, ◌∙◌, sym}
-use Rattle.host_core.specs.Core.{state_of}
+use Rattle.std.proofs.Common.{refl}
 use Rattle.durable_host.proofs.Opened.{begun_running, begun_kept}
 use Rattle.durable_host.proofs.parts.Parts.open.Goals as goal
 
