@@ -1,0 +1,13 @@
+pub mod Presence
+pub mod ClientStream
+pub mod Joining
+pub mod OneEvent
+pub mod Sending
+pub mod ClientTakes
+pub mod Flushing
+pub mod ServedRequests
+pub mod SourceRuns
+pub mod Progress
+pub mod ComingAndGoing
+pub mod Beginning
+pub mod Looks

@@ -1,0 +1,140 @@
+-- Serves clause ends of `serve_source`: requests one after the other, and how their stream ends.
+use Rattle.std.proofs.Common.{◌≡◌, refl, sym, ap, subst, ◌∙◌, ℕ, Bool, true, false, ◌||◌, List, [], ◌∷◌, ◌++◌, length, take, append-nil, if◌then◌else◌, Option, arith}
+use Rattle.std.specs.List.{list_any}
+use Rattle.std.specs.Io.KnownBytes.{Appends}
+use Rattle.std.proofs.KnownBytes.{Appends-nil, Appends-trans}
+use Rattle.std.proofs.lemmas.Bool.{false≢true}
+use Rattle.std.proofs.lemmas.List.{append_assoc}
+use Rattle.core_types.specs.declared.event.Event.{Event}
+use Rattle.disk_model.specs.Files.{Become, with_appended}
+use Rattle.disk_model.specs.Runs.{LeavesOnly}
+use Rattle.disk_model.specs.Told.{Told, files_told}
+use Rattle.disk_model.specs.declared.file_name.FileName.TheVariants.{Log}
+use Rattle.resp_codec.specs.Requests.{quits, up_to_quit}
+use Rattle.host_core.specs.Events.{step}
+use Rattle.host_core.specs.Fold as fold
+use Rattle.durable_host.specs.Crash.{HoldsFrom}
+use Rattle.durable_host.specs.Host.{Host}
+use Rattle.durable_host.specs.Kept.{Kept, state_now}
+use Rattle.server_shell.specs.Making.{safe_bytes, tells, with_events, writes}
+use Rattle.server_shell.specs.Requests.{Serves, ServesPart}
+use Rattle.server_shell.specs.Runs.{request_events, served_events}
+use Rattle.server_shell.specs.Stream.{IsCaughtUp}
+use Rattle.server_shell.proofs.ClientStream.{said_more}
+use Rattle.server_shell.proofs.Joining.{appended_twice, both_crash, kept_twice, logged_later, logged_whole, nothing_appended, now_after, writes_more}
+
+-- ---- two servings, one after the other
+
+module _ {D : Type 0} (told : D → Told) where
+  pub serves_nothing : (host : Host D) (got : Option (List ℕ)) → IsCaughtUp told host → LeavesOnly (told host.dir) (told host.dir) (HoldsFrom (with_events [] host.kept) 0) → Serves told [] host host got got
+  serves_nothing host got caught crash = record {
+    kept = ap (λ events. record host.kept { events = events }) (sym (append-nil host.kept.events));
+    caught_up = caught;
+    log = nothing_appended (files_told (told host.dir));
+    crash = crash;
+    sent = Appends-nil got;
+  }
+
+  module _ (a b c : Host D) (first second : List Event) (got got' got'' : Option (List ℕ)) (one : Serves told first a b got got') where
+    now_b : state_now b.kept ≡ fold.after step (state_now a.kept) first
+    now_b = ap state_now one.kept ∙ now_after a.kept first
+
+    told_b : tells b.kept.opening b.kept.events ≡ tells a.kept.opening a.kept.events ++ tells (state_now a.kept) first
+    told_b = ap (λ (k : Kept). tells k.opening k.events) one.kept ∙ said_more a.kept.opening a.kept.events first
+
+    pub serves_both : Serves told second b c got' got'' → Serves told (first ++ second) a c got got''
+    serves_both other = record {
+      kept = other.kept ∙ ap (with_events second) one.kept ∙ kept_twice a.kept first second;
+      caught_up = other.caught_up;
+      log = subst (λ text. Become (with_appended Log text) (files_told (told a.dir)) (files_told (told c.dir)))
+          (ap (λ state. writes (state_now a.kept) first ++ writes state second) now_b ∙ sym (writes_more (state_now a.kept) first second))
+          (appended_twice (writes (state_now a.kept) first) (writes (state_now b.kept) second) (files_told (told a.dir)) (files_told (told b.dir)) (files_told (told c.dir)) one.log other.log);
+      crash = both_crash told a b c first second one.kept one.crash other.crash;
+      sent = subst (Appends got got'') (ap (λ state. tells (state_now a.kept) first ++ tells state second) now_b ∙ sym (said_more (state_now a.kept) first second))
+          (Appends-trans got got' got'' (tells (state_now a.kept) first) (tells (state_now b.kept) second) one.sent other.sent);
+    }
+
+    pub serves_part : ServesPart told second b c got' got'' → ServesPart told (first ++ second) a c got got''
+    serves_part other = record {
+      made = first ++ other.made;
+      rest = other.rest;
+      parts = ap (λ events. first ++ events) other.parts ∙ sym (append_assoc first other.made other.rest);
+      kept = other.kept ∙ ap (with_events other.made) one.kept ∙ kept_twice a.kept first other.made;
+      keeps = other.keeps;
+      logged = logged_later told a b c first other.made one.kept one.log other.logged;
+      crash = both_crash told a b c first second one.kept one.crash other.crash;
+      bytes = tells (state_now a.kept) first ++ other.bytes;
+      sent = Appends-trans got got' got'' (tells (state_now a.kept) first) other.bytes one.sent other.sent;
+      count = other.count;
+      safely = sym (append_assoc (tells a.kept.opening a.kept.events) (tells (state_now a.kept) first) other.bytes)
+          ∙ ap (λ front. front ++ other.bytes) (sym told_b) ∙ other.safely;
+    }
+
+  -- what was served to its end was in part
+  pub whole_part : (a b : Host D) (events : List Event) (got got' : Option (List ℕ)) → Serves told events a b got got' → (safe : (n : ℕ) × (tells b.kept.opening b.kept.events ≡ take n (safe_bytes b)))
+      → ServesPart told events a b got got'
+  whole_part a b events got got' one safe = record {
+    made = events;
+    rest = [];
+    parts = sym (append-nil events);
+    kept = one.kept;
+    keeps = one.caught_up.keeps;
+    logged = logged_whole told a b events one.log;
+    crash = one.crash;
+    bytes = tells (state_now a.kept) events;
+    sent = one.sent;
+    count = safe.0;
+    safely = sym (told_b a b b events [] got got' got' one) ∙ safe.1;
+  }
+
+-- ---- one request more
+
+pub request_more : (requests : List (List (List ℕ))) (moments : List ℕ) (words : List (List ℕ)) (moment : ℕ) → length moments ≡ length requests
+    → served_events (requests ++ words ∷ []) (moments ++ moment ∷ []) ≡ served_events requests moments ++ request_events moment words
+request_more [] [] words moment each = refl
+request_more [] (other ∷ moments) words moment each = absurd (omega (arith, each))
+request_more (request ∷ requests) [] words moment each = absurd (omega (arith, each))
+request_more (request ∷ requests) (other ∷ moments) words moment each =
+    ap (λ events. request_events other request ++ events) (request_more requests moments words moment (omega (arith, each)))
+
+-- none stands behind a QUIT, where none of them is one but the last
+test_served : (words : List (List ℕ)) (more : List (List (List ℕ))) (t a : Bool) → (t || a) ≡ false → (a ≡ false → up_to_quit more ≡ more) → words ∷ (if t then [] else up_to_quit more) ≡ words ∷ more
+test_served words more true a none on = absurd (false≢true (sym none))
+test_served words more false a none on = ap (λ rest. words ∷ rest) (on none)
+
+pub none_behind : (requests : List (List (List ℕ))) → list_any quits requests ≡ false → up_to_quit requests ≡ requests
+none_behind [] none = refl
+none_behind (words ∷ more) none = test_served words more (quits words) (list_any quits more) none (none_behind more)
+
+alone : (words : List (List ℕ)) (t : Bool) → words ∷ (if t then [] else []) ≡ words ∷ []
+alone words true = refl
+alone words false = refl
+
+pub last_served : (requests : List (List (List ℕ))) (words : List (List ℕ)) → list_any quits requests ≡ false → up_to_quit (requests ++ words ∷ []) ≡ requests ++ words ∷ []
+last_served [] words none = alone words (quits words)
+last_served (request ∷ more) words none = test_served request (more ++ words ∷ []) (quits request) (list_any quits more) none (last_served more words)
+
+or_false : (t : Bool) → t ≡ false → (t || false) ≡ false
+or_false true is = is
+or_false false is = refl
+
+either_none : (t rest more : Bool) → (t || rest) ≡ false → (rest ≡ false → more ≡ false) → (t || more) ≡ false
+either_none true rest more none on = absurd (false≢true (sym none))
+either_none false rest more none on = on none
+
+pub none_more : (requests : List (List (List ℕ))) (words : List (List ℕ)) → list_any quits requests ≡ false → quits words ≡ false → list_any quits (requests ++ words ∷ []) ≡ false
+none_more [] words none last = or_false (quits words) last
+none_more (request ∷ requests) words none last =
+    either_none (quits request) (list_any quits requests) (list_any quits (requests ++ words ∷ [])) none (λ rest. none_more requests words rest last)
+
+or_true : (t : Bool) → t ≡ true → (t || false) ≡ true
+or_true true is = refl
+or_true false is = is
+
+either_one : (t more : Bool) → more ≡ true → (t || more) ≡ true
+either_one true more is = refl
+either_one false more is = is
+
+pub some_quits : (requests : List (List (List ℕ))) (words : List (List ℕ)) → quits words ≡ true → list_any quits (requests ++ words ∷ []) ≡ true
+some_quits [] words last = or_true (quits words) last
+some_quits (request ∷ requests) words last = either_one (quits request) (list_any quits (requests ++ words ∷ [])) (some_quits requests words last)

@@ -1,0 +1,12 @@
+pub mod Words
+pub mod Status
+pub mod Stops
+pub mod Runs
+pub mod Faults
+pub mod Making
+pub mod Stream
+pub mod Requests
+pub mod Pipe
+pub mod Check
+pub mod Top
+pub mod inner

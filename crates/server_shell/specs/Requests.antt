@@ -1,0 +1,60 @@
+-- What serving some events does: all of them, or some of them.
+use Rattle.std.specs.Prelude.{◌≡◌, ℕ, List, [], ◌∷◌, ◌++◌, take, Option}
+use Rattle.std.specs.Io.KnownBytes.{Appends}
+use Rattle.core_types.specs.declared.event.Event.{Event}
+use Rattle.disk_model.specs.Files.{Become, with_appended}
+use Rattle.disk_model.specs.Runs.{LeavesOnly}
+use Rattle.disk_model.specs.Told.{Told, files_told}
+use Rattle.disk_model.specs.declared.file_name.FileName.TheVariants.{Log}
+use Rattle.io_edges.specs.Told.{ClockTold, Gave}
+use Rattle.durable_host.specs.Crash.{HoldsFrom}
+use Rattle.durable_host.specs.Host.{Host, KeepsHistory}
+use Rattle.durable_host.specs.Kept.{state_now}
+use Rattle.server_shell.specs.Making.{IsLogged, safe_bytes, tells, with_events, writes}
+use Rattle.server_shell.specs.Stream.{IsCaughtUp}
+
+-- They were served: all of them were made, what they told client 1 was sent, and the log goes on
+-- with what they wrote.
+pub record Serves {D : Type 0} (told : D → Told) (events : List Event) (before after : Host D)
+    (got got' : Option (List ℕ)) : Type 0 where
+  pub kept : after.kept ≡ with_events events before.kept
+  pub caught_up : IsCaughtUp told after
+  pub log : Become (with_appended Log (writes (state_now before.kept) events))
+      (files_told (told before.dir)) (files_told (told after.dir))
+  pub crash : LeavesOnly (told before.dir) (told after.dir)
+      (HoldsFrom (with_events events before.kept) 0)
+  pub sent : Appends got got' (tells (state_now before.kept) events)
+
+-- They were served, and client 1 may be gone since: the safe events told it all that was sent.
+pub record ServesToEnd {D : Type 0} (told : D → Told) (events : List Event) (before after : Host D)
+    (got got' : Option (List ℕ)) : Type 0 where
+  pub kept : after.kept ≡ with_events events before.kept
+  pub keeps : KeepsHistory told after
+  pub log : Become (with_appended Log (writes (state_now before.kept) events))
+      (files_told (told before.dir)) (files_told (told after.dir))
+  pub crash : LeavesOnly (told before.dir) (told after.dir)
+      (HoldsFrom (with_events events before.kept) 0)
+  pub sent : Appends got got' (tells (state_now before.kept) events)
+  pub count : ℕ
+  pub safely : tells after.kept.opening after.kept.events ≡ take count (safe_bytes after)
+
+-- They may not have been served to their end: some were made, in order from the first, and of what they told
+-- client 1 a front was sent, which the safe events told.
+pub record ServesPart {D : Type 0} (told : D → Told) (events : List Event)
+    (before after : Host D) (got got' : Option (List ℕ)) : Type 0 where
+  pub made : List Event
+  pub rest : List Event
+  pub parts : events ≡ made ++ rest
+  pub kept : after.kept ≡ with_events made before.kept
+  pub keeps : KeepsHistory told after
+  pub logged : IsLogged told made before after
+  pub crash : LeavesOnly (told before.dir) (told after.dir)
+      (HoldsFrom (with_events events before.kept) 0)
+  pub bytes : List ℕ
+  pub sent : Appends got got' bytes
+  pub count : ℕ
+  pub safely : tells before.kept.opening before.kept.events ++ bytes ≡ take count (safe_bytes after)
+
+-- at a moment that the clock gave
+abbrev pub AtMoment : ClockTold → ClockTold → (ℕ → Type 0) → Type 0
+AtMoment old new P = (moment : ℕ) × Gave (moment ∷ []) old new × P moment
