@@ -2,27 +2,18 @@
 //!
 //! `modhost pipe DIR` opens the log `appendonly.aof` in DIR and replays it, or begins one, reads
 //! requests of RESP2 from standard input, serves them in order, writes each reply to standard
-//! output, and appends each change to the log, synced before its reply is written.
+//! output, and appends each change to the log, synced before its reply is written. It serves every
+//! plain command: strings, lists, hashes, keys of any type and their deadlines. The clock is read
+//! before each request, and the keys that are due by then go first, as changes of their own.
 //!
-//! All of it is the call `top::modhost`, over any directory, source and sink: its contract says
-//! what was sent and what the log holds at each end, and when each end comes. `main` makes the real
-//! ones and calls it. A request costs O(its bytes), and O(log n) in the number of keys. While the
-//! log is opened its bytes are held beside the keys; after that memory grows with the keys alone.
+//! All of it is the call `server_shell::modhost`, over any directory, source, sink and clock: its
+//! contract says what was sent and what the log holds at each end, when each end comes, and what a
+//! crash leaves. `main` makes the real ones and calls it. A request costs what its command costs,
+//! and O(log n) in the number of keys to find one. While the log is opened its bytes are held
+//! beside the keys; after that memory grows with the keys alone.
 #![tactic(auto)]
 
-pub mod command;
-pub mod execute;
-pub mod host;
-pub mod key_store;
-pub mod pipe;
 mod process;
-pub mod refusal;
-mod replay;
-pub mod status;
-#[cfg(test)]
-mod tests;
-pub mod top;
-pub mod words;
 
 use std::process::ExitCode;
 

@@ -1,11 +1,11 @@
 //! The process round the top call: its arguments, its standard streams, and its exit status.
 
-use crate::status::{Status, status_code};
-use crate::top::modhost;
 use core_types::NoMemory;
 use disk_model::RealDir;
-use io_edges::{RealSink, RealSource};
+use io_edges::{RealClock, RealSink, RealSource};
+use server_shell::{Status, modhost, status_code};
 use std::fs::File;
+use std::hash::RandomState;
 use std::process::ExitCode;
 use std::{env, io};
 
@@ -77,17 +77,43 @@ fn run_words(rt: &HostRuntime, words: &[&str]) -> Status {
     match words {
         ["--help" | "-h", ..] => print_text(rt, HELP),
         ["--version", ..] => print_text(rt, VERSION),
-        _ => {
-            let folder = words.get(1).copied().unwrap_or(".");
-            match RealDir::new(*rt, rt.alloc(), folder) {
-                Ok(dir) => {
-                    let mut source = RealSource::new(rt.stdin());
-                    let mut sink = RealSink::new(rt.stdout());
-                    modhost(rt.alloc(), words, dir, &mut source, &mut sink).status
-                }
-                Err(NoMemory) => Status::Memory,
-            }
+        _ => match hashing(rt) {
+            Ok(hashing) => serve(rt, hashing, words),
+            Err(status) => status,
+        },
+    }
+}
+
+// The secret numbers that the hashing of names begins with. Where the system gives none, the run
+// ends as where it gives no file descriptor.
+fn hashing(rt: &HostRuntime) -> Result<RandomState, Status> {
+    match RandomState::new(rt) {
+        Ok(hashing) => Ok(hashing),
+        Err(error) if error.kind() == io::ErrorKind::OutOfMemory => Err(Status::Memory),
+        Err(_) => Err(Status::DirFault),
+    }
+}
+
+// Makes the real directory, streams and clock, and does what the words ask for with them.
+fn serve(rt: &HostRuntime, hashing: RandomState, words: &[&str]) -> Status {
+    let folder = words.get(1).copied().unwrap_or(".");
+    match RealDir::new(*rt, rt.alloc(), folder) {
+        Ok(dir) => {
+            let mut source = RealSource::new(rt.stdin());
+            let mut sink = RealSink::new(rt.stdout());
+            let mut clock = RealClock::new(*rt);
+            modhost(
+                rt.alloc(),
+                hashing,
+                words,
+                dir,
+                &mut source,
+                &mut sink,
+                &mut clock,
+            )
+            .status
         }
+        Err(NoMemory) => Status::Memory,
     }
 }
 
