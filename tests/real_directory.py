@@ -20,6 +20,8 @@ FAULT = (3, b"", b"modhost: directory fault\n")
 
 SET_A = b"*3\r\n$3\r\nSET\r\n$1\r\na\r\n$1\r\n1\r\n"
 SET_B = b"*3\r\n$3\r\nSET\r\n$1\r\nb\r\n$1\r\n2\r\n"
+# The key a, due since 1970.
+DUE_A = SET_A + b"*3\r\n$9\r\nPEXPIREAT\r\n$1\r\na\r\n$4\r\n1000\r\n"
 
 
 def begin(folder):
@@ -136,16 +138,21 @@ TORN_LOG = ["flock folder", "fdatasync log", "ftruncate log", "fdatasync log", "
 
 
 def syncs(folder):
+    # What is added to the log before a run, what is sent, and the calls.
     runs = [
-        (b"SET a 1\n", NEW_LOG + REPLY),
-        (b"SET a 1\n", OLD_LOG + REPLY),
-        (b"GET a\n", OLD_LOG + ["reply"]),
-        (b"SET a 1\n", TORN_LOG + REPLY),
+        (b"", b"SET a 1\n", NEW_LOG + REPLY),
+        (b"", b"SET a 1\n", OLD_LOG + REPLY),
+        (b"", b"GET a\n", OLD_LOG + ["reply"]),
+        (b"", b"RPUSH l x\nHSET h f v\nLLEN l\n", OLD_LOG + 2 * REPLY + ["reply"]),
+        # A key that is due goes first, and one sync makes both changes safe.
+        (DUE_A, b"GET a\n", OLD_LOG + REPLY),
+        (DUE_A, b"SET b 2\n", OLD_LOG + ["write log"] + REPLY),
+        (b"*2\r\n", b"SET a 1\n", TORN_LOG + REPLY),
     ]
-    for sent, wanted in runs:
-        if wanted == TORN_LOG + REPLY:
+    for added, sent, wanted in runs:
+        if added:
             with open(os.path.join(folder, LOG), "ab") as log:
-                log.write(b"*2\r\n")
+                log.write(added)
         found = calls(folder, sent)
         if found != wanted:
             return f"at {sent!r} the calls are {found} instead of {wanted}"

@@ -36,6 +36,8 @@ def multibulk(*words):
 ROWS = [
     (multibulk(b"SET", b"k", b"a\r\nb"), [(b"SET", b"k", b"a\r\nb")], b"+OK\r\n", None),
     (multibulk(b"SET", b"", b""), [(b"SET", b"", b"")], b"+OK\r\n", None),
+    (multibulk(b"RPUSH", b"l", b"", b"\r\n", b"*1"), [(b"RPUSH", b"l", b"", b"\r\n", b"*1")], b":3\r\n", None),
+    (multibulk(b"hset", b"h", b"", b"", b"$", b"\x00"), [(b"HSET", b"h", b"", b"", b"$", b"\x00")], b":2\r\n", None),
     (b"*0\r\n*-1\r\n\r\nPING\n", [], b"+PONG\r\n", None),
     (b"*-9223372036854775808\r\n*1\r\n$4\r\nping\r\n", [], b"+PONG\r\n", None),
     (b"\tSET  key\t1\t\r\n \r\n\n SET a 2 \n", [(b"SET", b"key", b"1"), (b"SET", b"a", b"2")], b"+OK\r\n+OK\r\n", None),
