@@ -39,6 +39,23 @@ def long_value(size):
     return multibulk(b"PING", b"v" * size)
 
 
+def gets(count):
+    return multibulk(b"SET", b"k", b"v") + multibulk(b"GET", b"k") * count
+
+
+def one_list(count):
+    return multibulk(b"RPUSH", b"l", *(b"item:%07d" % n for n in range(count))) + multibulk(b"LLEN", b"l")
+
+
+def one_hash(count):
+    pairs = (word for n in range(count) for word in (b"name:%07d" % n, b"v"))
+    return multibulk(b"HSET", b"h", *pairs) + multibulk(b"HLEN", b"h")
+
+
+def many_keys(count):
+    pairs = (word for n in range(count) for word in (b"k%07d" % n, b"v"))
+    return multibulk(b"MSET", *pairs) + b"".join(multibulk(b"TTL", b"k%07d" % n) for n in range(count))
+
 
 # Each load with the size of the whole, and whether it is fed byte by byte, by dd.
 LOADS = [
@@ -46,6 +63,10 @@ LOADS = [
     ("one request of 1,000,000 words of 4 bytes", many_words, 1_000_000, False),
     ("500,000 requests of PING", pings, 500_000, False),
     ("1,000 inline lines of 65,536 bytes", inline_lines, 1_000, False),
+    ("300,000 requests of GET", gets, 300_000, False),
+    ("one list of 1,000,000 items, in one request", one_list, 1_000_000, False),
+    ("one hash of 500,000 names, in one request", one_hash, 500_000, False),
+    ("300,000 keys, in one request, and TTL of each", many_keys, 300_000, False),
     ("one word of 512 MiB", long_value, 536_870_912, False),
     ("byte by byte, one request of 200,000 words", many_words, 200_000, True),
     ("byte by byte, 30 inline lines of 65,536 bytes", inline_lines, 30, True),

@@ -180,6 +180,9 @@ OPENED = [
     (SET_A + DUE_LATE, b"SET a 1\nTTL a\n", b"+OK\r\n:-1\r\n", SET_A + DUE_LATE + SET_A),
     (SET_A + DUE_PAST, b"", b"", SET_A + DUE_PAST),
     (SET_A + DUE_PAST + SET_B, b"PING\nGET a\n", b"+PONG\r\n$-1\r\n", SET_A + DUE_PAST + SET_B + DEL_A),
+    # Two keys that are due go as one unit, the one that was due first before the other.
+    (SET_A + SET_B + request(b"PEXPIREAT a 2000") + request(b"PEXPIREAT b 1000"), b"PING\n", b"+PONG\r\n",
+     SET_A + SET_B + request(b"PEXPIREAT a 2000") + request(b"PEXPIREAT b 1000") + MULTI + DEL_B + DEL_A + EXEC),
     # A log as a Redis begins it, and changes of every type.
     (request(b"SELECT 0") + SET_A, b"GET a\n", b"$1\r\n1\r\n", request(b"SELECT 0") + SET_A),
     (request(b"rpush l x y") + request(b"LPOP l"), b"LRANGE l 0 -1\n", array(b"y"),
