@@ -142,23 +142,20 @@ def compare(ours, theirs):
 
 
 def check(folder, copy):
-    ours = Ours(folder)
-    for text in WRITES:
-        # The words have no space in them.
-        ours.ask(*text.split(b" "))
-    wrong = compare_copy(ours, folder, copy)
-    return ours.close() or wrong
-
-
-def compare_copy(ours, folder, copy):
-    shutil.copyfile(os.path.join(folder, LOG), os.path.join(copy, LOG))
-    theirs = None
+    """What is wrong, or None."""
+    ours, theirs = Ours(folder), None
     try:
+        for text in WRITES:
+            # The words have no space in them.
+            ours.ask(*text.split(b" "))
+        shutil.copyfile(os.path.join(folder, LOG), os.path.join(copy, LOG))
         theirs = Theirs(copy)
-        return compare(ours, theirs)
-    except ValueError as wrong:
+        return compare(ours, theirs) or ours.close()
+    except (OSError, ValueError) as wrong:
         return str(wrong)
     finally:
+        ours.program.kill()
+        ours.program.wait()
         if theirs:
             theirs.close()
 
