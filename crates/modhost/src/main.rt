@@ -10,8 +10,8 @@
 //! contract says what was sent and what the log holds at each end, when each end comes, and what a
 //! crash leaves. `main` makes the real ones and calls it. A request costs what its command costs,
 //! and O(log n) in the number of keys to find one. While the log is opened its bytes are held
-//! beside the keys; after that memory grows with the keys, and with the requests of the run, since
-//! the host keeps its events.
+//! beside the keys. After that memory grows with the keys, and with the requests of the run, since
+//! the host keeps a copy of the keys that were opened and every event since.
 #![tactic(auto)]
 
 mod process;
