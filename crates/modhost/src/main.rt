@@ -6,6 +6,9 @@
 //! plain command: strings, lists, hashes, keys of any type and their deadlines. The clock is read
 //! before each request, and the keys that are due by then go first, as changes of their own.
 //!
+//! `modhost check DIR` prints how many keys the folder stands for, how many bytes of its log are
+//! whole units and how many it has, and changes nothing.
+//!
 //! All of it is the call `server_shell::modhost`, over any directory, source, sink and clock: its
 //! contract says what was sent and what the log holds at each end, when each end comes, and what a
 //! crash leaves. `main` makes the real ones and calls it. A request costs what its command costs,

@@ -15,6 +15,8 @@ modhost: a keyspace server in the manner of Redis
     modhost pipe DIR    serve the requests of standard input (RESP2) over the append-only log in the
                         folder DIR, which is begun where there is none; replies go to standard
                         output
+    modhost check DIR   say how many keys the folder DIR stands for, and how much of its log is
+                        whole, and change nothing
     modhost --help, -h  print this
     modhost --version   print the version
 ";
