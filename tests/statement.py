@@ -16,7 +16,7 @@ RELIED_ON = [
     "resp_codec::reader::Reader::next",
     "effect_log::reader::LogReader::next",
     "restart::opening::open_log",
-    "modhost::top::modhost",
+    "server_shell::top::modhost",
 ]
 
 HEAD = re.compile(r"^( *)(?:(?:abbrev|unfoldable|pub) )*(?:(?:record|data) )?([^\s:({]+)(?= *[:({]| *$)")
