@@ -210,7 +210,7 @@ REFUSED = [
 ]
 
 # Words that are of no form: the place of the first one that none allows, or their number where one is missing.
-FAULTY = [([], 0), (["pipe"], 1), (["frob", "d"], 0), (["PIPE", "d"], 0), (["pipe", "d", "e"], 2)]
+FAULTY = [([], 0), (["pipe"], 1), (["check"], 1), (["frob", "d"], 0), (["PIPE", "d"], 0), (["pipe", "d", "e"], 2)]
 
 
 def rows():
@@ -228,6 +228,10 @@ def rows():
         kept = 0 if length < 27 else 27 if length < 103 else 103
         replies = {0: b"$-1\r\n$-1\r\n", 27: b"$-1\r\n$1\r\n2\r\n", 103: b"$1\r\n1\r\n$-1\r\n"}[kept]
         yield {LOG: UNITS[:length]}, ["pipe", "."], b"GET a\nGET b\n", 0, replies, b"", UNITS[:kept]
+    yield {LOG: SET_B + MULTI + SET_A}, ["check", "."], PING, 0, b"keys 1\nkept 27 of 69\n", b"", SET_B + MULTI + SET_A
+    yield {}, ["check", "."], PING, 0, b"keys 0\nkept 0 of 0\n", b"", None
+    yield {LOG: SET_A + b"RED"}, ["check", "."], PING, 2, b"", b"log refused: appendonly.aof at 27", SET_A + b"RED"
+    yield {DUMP: b"old"}, ["check", "."], PING, 13, b"", b"not built 1", None
     yield {DUMP: b"old"}, ["pipe", "."], PING, 13, b"", b"not built 1", None
     yield {}, ["pipe", "absent"], PING, 3, b"", b"directory fault", None
 
