@@ -29,6 +29,7 @@ use Rattle.server_shell.specs.declared.status.Status.{Status}
 use Rattle.server_shell.specs.declared.status.Status.TheVariants as status
 use Rattle.server_shell.proofs.ClientStream.{comer_told, goer_told, said_more}
 use Rattle.server_shell.proofs.Joining.{appended_twice, both_crash, kept_twice, now_after, wider, writes_more}
+use Rattle.server_shell.proofs.Progress.{nothing_wanted}
 use Rattle.server_shell.proofs.ServedRequests.{goes_on_one, part_broken, still_safe}
 use Rattle.server_shell.proofs.SourceRuns.{serves_both, serves_part}
 
@@ -252,7 +253,7 @@ module _ {D : Type 0} (told : D → Told) (a b : Host D) (caught : IsCaughtUp to
             requests = [];
             moments = [];
             end = End.Rest 0;
-            took = record { consumed = Consumes-nil left; stream = new; read = new_read new refl refl; within = omega arith; served = refl; gave = none_told clock.given; each = refl };
+            took = record { consumed = Consumes-nil left; stream = new; read = new_read new refl refl; within = omega arith; served = refl; wanted = nothing_wanted; gave = none_told clock.given; each = refl };
             goes_on = tt;
             part = longer told a b came gone got got (part_broken told came a b got caught breaks);
           })

@@ -3,6 +3,7 @@ use Rattle.std.proofs.Common.{◌≡◌, ◌≤◌, ◌<◌, refl, sym, ap, subs
 use Rattle.std.specs.List.{concat}
 use Rattle.std.specs.Io.KnownBytes.{Consumes, IsAtEnd, Keeps}
 use Rattle.std.proofs.KnownBytes.{Consumes-kept, Consumes-nil, Consumes-trans}
+use Rattle.std.proofs.lemmas.List.{append_assoc}
 use Rattle.std.proofs.Math.Seq.{take-append_seam}
 use Rattle.core_types.specs.declared.bad_request.BadRequest.{BadRequest}
 use Rattle.disk_model.specs.Told.{Told}
@@ -18,7 +19,7 @@ use Rattle.durable_host.specs.Host.{Host}
 use Rattle.durable_host.proofs.Histories.{holds_beyond}
 use Rattle.server_shell.specs.Faults.{IsServeStop, end_of}
 use Rattle.server_shell.specs.Making.{safe_bytes, tells, with_events}
-use Rattle.server_shell.specs.Pipe.{EndsWithin, GoesOnTo, IsAll, NoneQuits, Outside, ServesAll, ServesLimit, SourceEnds, StopsWithin, Took, WantsMore}
+use Rattle.server_shell.specs.Pipe.{EndsWithin, GoesOnTo, IsAll, NoneQuits, Outside, ServesAll, ServesLimit, SourceEnds, StopsWithin, Took, WantsMore, WasWanted}
 use Rattle.server_shell.specs.Pipe as pipe
 use Rattle.server_shell.specs.Requests.{AtMoment, Serves, ServesPart}
 use Rattle.server_shell.specs.Runs.{end_events, request_events, served_events}
@@ -41,7 +42,12 @@ pub record Progress {D : Type 0} (told : D → Told) (before host : Host D) (str
   pub going : NoneQuits requests
   pub size : count ≡ length taken
   pub within : count ≤ 2 ^ 40
+  pub wanted : WasWanted taken requests
   pub serves : Serves told (served_events requests moments) before host got got'
+
+-- before the first piece
+pub nothing_wanted : WasWanted [] []
+nothing_wanted = record { before = []; piece = []; front = []; more = []; taken_are = refl; short = omega arith; requests_are = refl; wanted = inl refl }
 
 module _ {D : Type 0} (told : D → Told) (before : Host D) (left : Option (List ℕ)) (clock : ClockTold) (got : Option (List ℕ)) where
   abbrev At : Host D → Stream → ℕ → Option (List ℕ) → ClockTold → Option (List ℕ) → Type 0
@@ -75,6 +81,7 @@ module _ {D : Type 0} (told : D → Told) (before : Host D) (left : Option (List
     going = refl;
     size = refl;
     within = omega arith;
+    wanted = nothing_wanted;
     serves = serves_nothing told before got caught
         (moments.no_call (told before.dir) (told before.dir) (HoldsFrom (with_events [] before.kept) 0) refl
         (λ image may. let holds = caught.keeps.images image may in holds_beyond before.kept [] 0 before.safe image (omega arith) holds));
@@ -83,8 +90,8 @@ module _ {D : Type 0} (told : D → Told) (before : Host D) (left : Option (List
   module _ (host : Host D) (stream : Stream) (count : ℕ) (left' : Option (List ℕ)) (clock' : ClockTold) (got' : Option (List ℕ)) (p : At host stream count left' clock' got') where
     -- a piece more was taken
     pub fed : (fed_stream : Stream) (left'' : Option (List ℕ)) (piece : List ℕ) (n : ℕ) → Consumes left' left'' piece → fed_stream.passed ≡ stream.passed → fed_stream.rest ≡ stream.rest ++ piece → length piece ≡ n → count + n ≤ 2 ^ 40
-        → At host fed_stream (count + n) left'' clock' got'
-    fed fed_stream left'' piece n more passed rest size within = record {
+        → WasWanted (p.taken ++ piece) p.requests → At host fed_stream (count + n) left'' clock' got'
+    fed fed_stream left'' piece n more passed rest size within wanted = record {
       taken = p.taken ++ piece;
       requests = p.requests;
       moments = p.moments;
@@ -95,6 +102,7 @@ module _ {D : Type 0} (told : D → Told) (before : Host D) (left : Option (List
       going = p.going;
       size = omega (arith, p.size, size, length-append p.taken piece);
       within = within;
+      wanted = wanted;
       serves = p.serves;
     }
 
@@ -111,6 +119,7 @@ module _ {D : Type 0} (told : D → Told) (before : Host D) (left : Option (List
       going = p.going;
       size = p.size;
       within = p.within;
+      wanted = p.wanted;
       serves = p.serves;
     }
 
@@ -120,12 +129,30 @@ module _ {D : Type 0} (told : D → Told) (before : Host D) (left : Option (List
     pub wants : (next : Stream) → Waits stream next → WantsMore p.taken p.requests
     wants next waits = (p.going, (length next.rest, (more_on p.taken p.requests stream next p.read waits).1))
 
+    -- a piece that is taken then
+    pub waited : (next : Stream) (waits : Waits stream next) (piece : List ℕ) → length piece ≤ 16384 → WasWanted ((waits_on next waits).taken ++ piece) (waits_on next waits).requests
+    unfolding waits_on passes_on
+    waited next waits piece few =
+        record { before = p.taken; piece = piece; front = p.requests; more = []; taken_are = refl; short = few; requests_are = sym (append-nil p.requests); wanted = inr (wants next waits).1 }
+
     pub room : stream.passed + length stream.rest ≡ length p.taken
     room = omega (arith, p.read.passed, ap length p.read.whole, length-append (bytes_of p.read.spans) stream.rest)
 
     -- one request more
     more_events : (words : List (List ℕ)) (moment : ℕ) → served_events (p.requests ++ words ∷ []) (p.moments ++ moment ∷ []) ≡ served_events p.requests p.moments ++ request_events moment words
     more_events words moment = request_more p.requests p.moments words moment p.each
+
+    more_wanted : (words : List (List ℕ)) → WasWanted p.taken (p.requests ++ words ∷ [])
+    more_wanted words = record {
+      before = p.wanted.before;
+      piece = p.wanted.piece;
+      front = p.wanted.front;
+      more = p.wanted.more ++ words ∷ [];
+      taken_are = p.wanted.taken_are;
+      short = p.wanted.short;
+      requests_are = ap (λ all. all ++ words ∷ []) p.wanted.requests_are ∙ append_assoc p.wanted.front p.wanted.more (words ∷ []);
+      wanted = p.wanted.wanted;
+    }
 
     more_each : (words : List (List ℕ)) (moment : ℕ) → length (p.moments ++ moment ∷ []) ≡ length (p.requests ++ words ∷ [])
     more_each words moment = omega (arith, p.each, length-append p.moments (moment ∷ []), length-append p.requests (words ∷ []))
@@ -146,6 +173,7 @@ module _ {D : Type 0} (told : D → Told) (before : Host D) (left : Option (List
         going = none_more p.requests words p.going goes;
         size = p.size;
         within = p.within;
+        wanted = more_wanted words;
         serves = subst (λ events. Serves told events before after got got'') (sym (more_events words served.0))
             (serves_both told before host after (served_events p.requests p.moments) (request_events served.0 words) got got' got'' p.serves served.2);
       }
@@ -162,7 +190,7 @@ module _ {D : Type 0} (told : D → Told) (before : Host D) (left : Option (List
               stream = next;
               read = read;
               within = omega (arith, p.size, p.within);
-              served = last_served p.requests words p.going;
+              served = last_served p.requests words p.going; wanted = more_wanted words;
               gave = more_gave clock'' served.0 served.1;
               each = more_each words served.0;
             };
@@ -185,7 +213,7 @@ module _ {D : Type 0} (told : D → Told) (before : Host D) (left : Option (List
           stream = next;
           read = request_on p.taken p.requests stream next words p.read takes;
           within = omega (arith, p.size, p.within);
-          served = last_served p.requests words p.going;
+          served = last_served p.requests words p.going; wanted = more_wanted words;
           gave = more_gave clock'' part.0 part.1;
           each = more_each words part.0;
         };
@@ -202,8 +230,8 @@ module _ {D : Type 0} (told : D → Told) (before : Host D) (left : Option (List
         (length bytes, sym (ap (take (length bytes)) still.1 ∙ take-append_seam bytes still.0))
 
     -- memory ran out between two requests
-    pub stops_between : (stream' : Stream) (left'' : Option (List ℕ)) (more : List ℕ) → Consumes left' left'' more → IsReadAs (p.taken ++ more) p.requests stream' → length (p.taken ++ more) ≤ 2 ^ 40 → Part host (seen left'' clock' got')
-    stops_between stream' left'' more consumed read few = record {
+    pub stops_between : (stream' : Stream) (left'' : Option (List ℕ)) (more : List ℕ) → Consumes left' left'' more → IsReadAs (p.taken ++ more) p.requests stream' → length (p.taken ++ more) ≤ 2 ^ 40 → WasWanted (p.taken ++ more) p.requests → Part host (seen left'' clock' got')
+    stops_between stream' left'' more consumed read few wanted = record {
       taken = p.taken ++ more;
       requests = p.requests;
       moments = p.moments;
@@ -214,6 +242,7 @@ module _ {D : Type 0} (told : D → Told) (before : Host D) (left : Option (List
         read = read;
         within = few;
         served = none_behind p.requests p.going;
+        wanted = wanted;
         gave = p.gave;
         each = p.each;
       };
@@ -224,6 +253,7 @@ module _ {D : Type 0} (told : D → Told) (before : Host D) (left : Option (List
 
     pub stops_here : Part host (seen left' clock' got')
     stops_here = stops_between stream left' [] (Consumes-nil left') (subst (λ bytes. IsReadAs bytes p.requests stream) (sym (append-nil p.taken)) p.read) (omega (arith, p.size, p.within, length-append p.taken []))
+        (subst (λ bytes. WasWanted bytes p.requests) (sym (append-nil p.taken)) p.wanted)
 
     -- the source failed, or more came than is taken
     pub source_failed : (next : Stream) (left'' : Option (List ℕ)) → Waits stream next → Keeps left' left'' → All host (seen left'' clock' got') WantsMore
@@ -237,6 +267,7 @@ module _ {D : Type 0} (told : D → Told) (before : Host D) (left : Option (List
         read = (more_on p.taken p.requests stream next p.read waits).0;
         within = omega (arith, p.size, p.within);
         served = none_behind p.requests p.going;
+        wanted = p.wanted;
         gave = p.gave;
         each = p.each;
       };
@@ -272,6 +303,7 @@ module _ {D : Type 0} (told : D → Told) (before : Host D) (left : Option (List
           read = (more_on p.taken p.requests stream next p.read waits).0;
           within = omega (arith, p.size, p.within);
           served = none_behind p.requests p.going;
+          wanted = p.wanted;
           gave = p.gave;
           each = p.each;
         };
@@ -325,7 +357,7 @@ module _ {D : Type 0} (told : D → Told) (before : Host D) (left : Option (List
           requests = p.requests;
           moments = p.moments;
           end = End.Bad kind offset;
-          took = record { consumed = p.consumed; stream = next; read = at_bad.0; within = omega (arith, p.size, p.within); served = none_behind p.requests p.going; gave = p.gave; each = p.each };
+          took = record { consumed = p.consumed; stream = next; read = at_bad.0; within = omega (arith, p.size, p.within); served = none_behind p.requests p.going; wanted = p.wanted; gave = p.gave; each = p.each };
           goes_on = (p.going, at_bad.1);
           part = serves_part told before host after (served_events p.requests p.moments) (end_events (End.Bad kind offset)) got got' got'' p.serves part;
         }
@@ -335,7 +367,7 @@ module _ {D : Type 0} (told : D → Told) (before : Host D) (left : Option (List
           taken = p.taken;
           requests = p.requests;
           moments = p.moments;
-          took = record { consumed = p.consumed; stream = next; read = at_bad.0; within = omega (arith, p.size, p.within); served = none_behind p.requests p.going; gave = p.gave; each = p.each };
+          took = record { consumed = p.consumed; stream = next; read = at_bad.0; within = omega (arith, p.size, p.within); served = none_behind p.requests p.going; wanted = p.wanted; gave = p.gave; each = p.each };
           going = p.going;
           bad = at_bad.1;
           serves = serves_both told before host after (served_events p.requests p.moments) (end_events (End.Bad kind offset)) got got' got'' p.serves served;

@@ -1,5 +1,5 @@
 -- How serving the stream of a source ends.
-use Rattle.std.specs.Prelude.{◌≡◌, ◌<◌, ◌≤◌, ◌⊎◌, ◌^◌, ℕ, Bool, true, false, List, ◌∷◌, ◌++◌, length, Option}
+use Rattle.std.specs.Prelude.{◌≡◌, ◌<◌, ◌≤◌, ◌⊎◌, ◌^◌, ℕ, Bool, true, false, List, [], ◌∷◌, ◌++◌, length, Option}
 use Rattle.std.specs.List.{list_any}
 use Rattle.std.specs.Io.KnownBytes.{Consumes, IsAtEnd}
 use Rattle.core_types.specs.declared.bad_request.BadRequest.{BadRequest}
@@ -47,6 +47,18 @@ unread left clock sink sink' = record {
   got' = sink'.got;
 }
 
+-- The last of the bytes were taken at once, 16,384 at the most, when more was wanted: those before
+-- them end within a request, and their requests are the first of these; or there were none before.
+pub record WasWanted (taken : List ℕ) (requests : List (List (List ℕ))) : Type 0 where
+  pub before : List ℕ
+  pub piece : List ℕ
+  pub front : List (List (List ℕ))
+  pub more : List (List (List ℕ))
+  pub taken_are : taken ≡ before ++ piece
+  pub short : length piece ≤ 16384
+  pub requests_are : requests ≡ front ++ more
+  pub wanted : (before ≡ []) ⊎ ((count : ℕ) × Requests before front (End.Rest count))
+
 -- These bytes were taken of the source, 2^40 at the most, a front of them spells these requests, of
 -- which none stands behind a QUIT, and for each of them the clock gave a moment.
 pub record Took (o : Outside) (taken : List ℕ) (requests : List (List (List ℕ)))
@@ -56,6 +68,7 @@ pub record Took (o : Outside) (taken : List ℕ) (requests : List (List (List �
   pub stream : Stream
   pub read : IsReadAs taken requests stream
   pub served : up_to_quit requests ≡ requests
+  pub wanted : WasWanted taken requests
   pub gave : Gave moments o.clock o.clock'
   pub each : length moments ≡ length requests
 

@@ -5,12 +5,13 @@ use Rattle.std.proofs.lemmas.List.{length-take-le}
 use Rattle.std.proofs.lemmas.Result.{err_from_is_err_and}
 use Rattle.resp_codec.proofs.WholeReadings.{feed_on}
 use Rattle.server_shell.specs.Faults.{Faults}
-use Rattle.server_shell.proofs.Progress.{begins, ends_at_end, fed, one_more, quit, refuses, served_stop, shorter, source_stops, stops_between, stops_here, stops_serving, waits_on}
+use Rattle.server_shell.proofs.Progress.{begins, ends_at_end, fed, one_more, quit, refuses, served_stop, shorter, source_stops, stops_between, stops_here, stops_serving, waited, waits_on}
 use Rattle.server_shell.proofs.pipe.serve_source.Goals as goal
 
 pub serving-init : goal.serving-init
 serving-init g c = record {
   some = omega arith;
+  full = omega arith;
   progress = begins g.D.Dir.told c.args.host.now (g.S.Source.told c.args.source.now).left (g.C.Clock.told c.args.clock.now) (g.K.Sink.told c.args.sink.now).got c.new-reader.result c.requires.caught_up
       c.new-reader.ensures.passed c.new-reader.ensures.rest;
   dir_kept = refl;
@@ -57,6 +58,7 @@ serving-preserved-else-quits g c =
     let e = c.in_ok-serve_request-in-Request.ensures in
     record {
       some = i.some;
+      full = i.full;
       progress = one_more g.D.Dir.told c.args.host.now (g.S.Source.told c.args.source.now).left (g.C.Clock.told c.args.clock.now) (g.K.Sink.told c.args.sink.now).got c.serving.host c.serving.reader c.serving.taken (g.S.Source.told c.serving.source).left (g.C.Clock.told c.serving.clock) (g.K.Sink.told c.serving.sink).got c.serving.invariant.progress
           c.next.new.self c.in-Request.words t c.serve_request.new.host (g.C.Clock.told c.serve_request.new.clock) (g.K.Sink.told c.serve_request.new.sink).got e.served (sym c.is_quit-quits.ensures ∙ c.if-quits.false);
       dir_kept = ap (λ (f : Faults). f.dir) e.counts ∙ i.dir_kept;
@@ -86,11 +88,13 @@ returns-in_err-feed-in-More-clause-ends g c =
     let e = c.in_ok-count-in-More.ensures in
     let w = c.in_ok-words.ensures.more (ap Ok c.in-More.is) in
     let piece = take c.in_ok-count-in-More.count c.next_piece.new.buffer in
+    let size : length c.next_piece.new.buffer ≡ length c.serving.buffer = c.next_piece.auto.buffer in
     let waiting = waits_on g.D.Dir.told c.args.host.now (g.S.Source.told c.args.source.now).left (g.C.Clock.told c.args.clock.now) (g.K.Sink.told c.args.sink.now).got c.serving.host c.serving.reader c.serving.taken (g.S.Source.told c.serving.source).left (g.C.Clock.told c.serving.clock) (g.K.Sink.told c.serving.sink).got c.serving.invariant.progress c.next.new.self w in
     rw (p.1, p.2) (stops_between g.D.Dir.told c.args.host.now (g.S.Source.told c.args.source.now).left (g.C.Clock.told c.args.clock.now) (g.K.Sink.told c.args.sink.now).got c.serving.host c.next.new.self c.serving.taken (g.S.Source.told c.serving.source).left (g.C.Clock.told c.serving.clock) (g.K.Sink.told c.serving.sink).got waiting
     (record { passed = c.next.new.self.passed; rest = c.next.new.self.rest ++ piece }) (g.S.Source.told c.next_piece.new.source).left piece e.bytes
     (feed_on waiting.taken piece waiting.requests c.next.new.self (record { passed = c.next.new.self.passed; rest = c.next.new.self.rest ++ piece }) waiting.read refl refl)
-    (omega (arith, waiting.size, e.within, length-take-le c.in_ok-count-in-More.count c.next_piece.new.buffer e.bound, length-append waiting.taken piece)))
+    (omega (arith, waiting.size, e.within, length-take-le c.in_ok-count-in-More.count c.next_piece.new.buffer e.bound, length-append waiting.taken piece))
+    (waited g.D.Dir.told c.args.host.now (g.S.Source.told c.args.source.now).left (g.C.Clock.told c.args.clock.now) (g.K.Sink.told c.args.sink.now).got c.serving.host c.serving.reader c.serving.taken (g.S.Source.told c.serving.source).left (g.C.Clock.told c.serving.clock) (g.K.Sink.told c.serving.sink).got c.serving.invariant.progress c.next.new.self w (take c.in_ok-count-in-More.count c.next_piece.new.buffer) (omega (arith, e.bound, c.serving.invariant.full, size, length-take-le c.in_ok-count-in-More.count c.next_piece.new.buffer e.bound))))
 
 pub serving-preserved : goal.serving-preserved
 serving-preserved g c =
@@ -101,9 +105,11 @@ serving-preserved g c =
     let size : length c.next_piece.new.buffer ≡ length c.serving.buffer = c.next_piece.auto.buffer in
     record {
       some = omega (arith, i.some, size);
+      full = size ∙ i.full;
       progress = fed g.D.Dir.told c.args.host.now (g.S.Source.told c.args.source.now).left (g.C.Clock.told c.args.clock.now) (g.K.Sink.told c.args.sink.now).got c.serving.host c.next.new.self c.serving.taken (g.S.Source.told c.serving.source).left (g.C.Clock.told c.serving.clock) (g.K.Sink.told c.serving.sink).got waiting
           c.feed.new.self (g.S.Source.told c.next_piece.new.source).left (take c.in_ok-count-in-More.count c.next_piece.new.buffer) c.in_ok-count-in-More.count e.bytes c.feed.ensures.passed c.in_ok-feed-in-More.ensures.ok
-          (length-take-le c.in_ok-count-in-More.count c.next_piece.new.buffer e.bound) e.within;
+          (length-take-le c.in_ok-count-in-More.count c.next_piece.new.buffer e.bound) e.within
+          (waited g.D.Dir.told c.args.host.now (g.S.Source.told c.args.source.now).left (g.C.Clock.told c.args.clock.now) (g.K.Sink.told c.args.sink.now).got c.serving.host c.serving.reader c.serving.taken (g.S.Source.told c.serving.source).left (g.C.Clock.told c.serving.clock) (g.K.Sink.told c.serving.sink).got c.serving.invariant.progress c.next.new.self w (take c.in_ok-count-in-More.count c.next_piece.new.buffer) (omega (arith, e.bound, c.serving.invariant.full, size, length-take-le c.in_ok-count-in-More.count c.next_piece.new.buffer e.bound)));
       dir_kept = i.dir_kept;
       source_kept = e.kept ∙ i.source_kept;
       sink_kept = i.sink_kept;

@@ -10,6 +10,7 @@ invariant-serving g l =
     let dir = g.D.Dir.told in
     record {
       some : 0 < length l.buffer;
+      full : length l.buffer ≡ 16384;
       progress : Progress dir l.fn.host l.host l.reader l.taken (source l.fn.source).left (source l.source).left (clock l.fn.clock) (clock l.clock) (sink l.fn.sink).got (sink l.sink).got;
       dir_kept : (dir l.host.dir).faults ≡ (dir l.fn.host.dir).faults;
       source_kept : (source l.source).faults ≡ (source l.fn.source).faults;
