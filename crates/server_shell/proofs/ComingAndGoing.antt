@@ -1,9 +1,8 @@
 -- Serves clause ends of `serve_pipe`: client 1 comes before its requests, and goes behind them.
-use Rattle.std.proofs.Common.{◌≡◌, ◌≤◌, refl, sym, ap, subst, ◌∙◌, ℕ, ◌-◌, true, false, List, [], ◌∷◌, ◌++◌, length, take, length-append, append-nil, Option, arith}
+use Rattle.std.proofs.Common.{◌≡◌, ◌≤◌, refl, sym, ap, subst, ◌∙◌, ℕ, ◌-◌, true, false, List, [], ◌∷◌, ◌++◌, length, take, length-append, append-nil, Option, arith, inl, inr, ◌⊎◌}
 use Rattle.std.specs.Io.KnownBytes.{Appends}
-use Rattle.std.proofs.KnownBytes.{Appends-nil, Consumes-nil}
+use Rattle.std.proofs.KnownBytes.{Appends-nil}
 use Rattle.std.proofs.lemmas.Bool.{false≢true}
-use Rattle.std.proofs.lemmas.List.{append_assoc}
 use Rattle.std.proofs.Math.Seq.{take-append_seam}
 use Rattle.core_types.specs.declared.event.Event.{Event}
 use Rattle.core_types.specs.declared.event.Event.TheVariants as event
@@ -11,25 +10,20 @@ use Rattle.disk_model.specs.Files.{Become, with_appended}
 use Rattle.disk_model.specs.Told.{Told, files_told}
 use Rattle.disk_model.specs.declared.file_name.FileName.TheVariants.{Log}
 use Rattle.io_edges.specs.Told.{ClockTold}
-use Rattle.io_edges.proofs.Readings.{none_told}
-use Rattle.resp_codec.specs.Requests.{End}
-use Rattle.resp_codec.specs.Stream.{Stream}
-use Rattle.resp_codec.proofs.WholeReadings.{new_read}
 use Rattle.host_core.specs.Events.{step}
 use Rattle.host_core.specs.Fold as fold
 use Rattle.durable_host.specs.Host.{Host}
 use Rattle.durable_host.specs.Kept.{Kept, state_now}
 use Rattle.server_shell.specs.Faults.{IsHostStop}
 use Rattle.server_shell.specs.Making.{Breaks, Makes, taken_by, tells, with_events, writes}
-use Rattle.server_shell.specs.Pipe.{Ends, Outside, PipeEnds, SourceEnds, StopsWithin, is_over}
+use Rattle.server_shell.specs.Pipe.{Ends, Outside, PipeEnds, SourceEnds, StopsFirst, StopsLast, StopsWithin, is_over}
 use Rattle.server_shell.specs.Requests.{Serves, ServesPart, ServesToEnd}
 use Rattle.server_shell.specs.Runs.{stream_events}
 use Rattle.server_shell.specs.Stream.{IsCaughtUp, IsOneStream}
 use Rattle.server_shell.specs.declared.status.Status.{Status}
 use Rattle.server_shell.specs.declared.status.Status.TheVariants as status
 use Rattle.server_shell.proofs.ClientStream.{comer_told, goer_told, said_more}
-use Rattle.server_shell.proofs.Joining.{appended_twice, both_crash, kept_twice, now_after, wider, writes_more}
-use Rattle.server_shell.proofs.Progress.{nothing_wanted}
+use Rattle.server_shell.proofs.Joining.{appended_twice, both_crash, kept_twice, now_after, writes_more}
 use Rattle.server_shell.proofs.ServedRequests.{goes_on_one, part_broken, still_safe}
 use Rattle.server_shell.proofs.SourceRuns.{serves_both, serves_part}
 
@@ -73,22 +67,6 @@ module _ {D : Type 0} (told : D → Told) (a b : Host D) (got : Option (List ℕ
       sent = subst (Appends got got) (sym silent) (Appends-nil got);
     }
 
--- what was made in part of some events was of more
-longer : {D : Type 0} (told : D → Told) (a b : Host D) (events more : List Event) (got got' : Option (List ℕ)) → ServesPart told events a b got got' → ServesPart told (events ++ more) a b got got'
-longer told a b events more got got' one = record {
-  made = one.made;
-  rest = one.rest ++ more;
-  parts = ap (λ front. front ++ more) one.parts ∙ append_assoc one.made one.rest more;
-  kept = one.kept;
-  keeps = one.keeps;
-  logged = one.logged;
-  crash = wider a.kept events more (told a.dir) (told b.dir) one.crash;
-  bytes = one.bytes;
-  sent = one.sent;
-  count = one.count;
-  safely = one.safely;
-}
-
 module _ {D : Type 0} (told : D → Told) (a b c : Host D) (events : List Event) (got got' : Option (List ℕ)) (one : Serves told events a b got got') where
   -- client 1 went
   went : Makes told gone b c → ServesToEnd told (events ++ gone) a c got got'
@@ -112,29 +90,34 @@ module _ {D : Type 0} (told : D → Told) (a b c : Host D) (events : List Event)
       }
 
   -- or the host stopped over it
-  stayed : Breaks told gone b c → ServesPart told (events ++ gone) a c got got'
-  stayed breaks = serves_part told a b c events gone got got' got' one (part_broken told gone b c got' one.caught_up breaks)
+  stayed : Breaks told gone b c → ServesPart told events gone a c got got'
+  stayed breaks =
+      subst (λ done. ServesPart told done gone a c got got') (append-nil events)
+      (serves_part told a b c events [] got got' got' one gone (part_broken told gone b c got' one.caught_up breaks))
 
 -- ---- by the end of a run
 
 module _ (o : Outside) where
-  within_as : (part part' : List Event → Type 0) → ((events : List Event) → part events → part' events) → StopsWithin o part → StopsWithin o part'
-  within_as part part' within ends = record {
+  within_as : (R S : (done within : List Event) → Type 0) → ((done within : List Event) → R done within → S done within) → StopsWithin o R → StopsWithin o S
+  within_as R S on ends = record {
     taken = ends.taken;
     requests = ends.requests;
     moments = ends.moments;
     end = ends.end;
     took = ends.took;
     goes_on = ends.goes_on;
-    part = within _ ends.part;
+    done = ends.done;
+    within = ends.within;
+    stage = ends.stage;
+    part = on ends.done ends.within ends.part;
   }
 
   -- a stream that is not over
-  goes_on_as : (going going' part part' whole whole' : List Event → Type 0) → ((events : List Event) → going events → going' events) → ((events : List Event) → part events → part' events)
-      → (end : Status) → is_over end ≡ false → Ends end o whole going part → Ends end o whole' going' part'
-  goes_on_as going going' part part' whole whole' on within status.ReadFault over ends =
+  goes_on_as : (going going' whole whole' : List Event → Type 0) (stop stop' : Type 0) → ((events : List Event) → going events → going' events) → (stop → stop')
+      → (end : Status) → is_over end ≡ false → Ends end o whole going stop → Ends end o whole' going' stop'
+  goes_on_as going going' whole whole' stop stop' on stopped status.ReadFault over ends =
       record { taken = ends.taken; requests = ends.requests; moments = ends.moments; took = ends.took; is = ends.is; serves = on _ ends.serves }
-  goes_on_as going going' part part' whole whole' on within status.TooLong over ends = record {
+  goes_on_as going going' whole whole' stop stop' on stopped status.TooLong over ends = record {
     front = ends.front;
     more = ends.more;
     requests = ends.requests;
@@ -147,25 +130,25 @@ module _ (o : Outside) where
     each = ends.each;
     serves = on _ ends.serves;
   }
-  goes_on_as going going' part part' whole whole' on within status.DirFault over ends = within_as part part' within ends
-  goes_on_as going going' part part' whole whole' on within status.Memory over ends = within_as part part' within ends
-  goes_on_as going going' part part' whole whole' on within status.NumbersSpent over ends = within_as part part' within ends
-  goes_on_as going going' part part' whole whole' on within status.WriteFault over ends = within_as part part' within ends
-  goes_on_as going going' part part' whole whole' on within status.Done over ends = absurd (false≢true (sym over))
-  goes_on_as going going' part part' whole whole' on within (status.CutOff count) over ends = absurd (false≢true (sym over))
-  goes_on_as going going' part part' whole whole' on within (status.Protocol kind offset) over ends = absurd (false≢true (sym over))
-  goes_on_as going going' part part' whole whole' on within (status.Usage place) over ends = absurd ends
-  goes_on_as going going' part part' whole whole' on within (status.LogRefused file at why) over ends = absurd ends
-  goes_on_as going going' part part' whole whole' on within (status.NotBuilt what) over ends = absurd ends
+  goes_on_as going going' whole whole' stop stop' on stopped status.DirFault over ends = stopped ends
+  goes_on_as going going' whole whole' stop stop' on stopped status.Memory over ends = stopped ends
+  goes_on_as going going' whole whole' stop stop' on stopped status.NumbersSpent over ends = stopped ends
+  goes_on_as going going' whole whole' stop stop' on stopped status.WriteFault over ends = stopped ends
+  goes_on_as going going' whole whole' stop stop' on stopped status.Done over ends = absurd (false≢true (sym over))
+  goes_on_as going going' whole whole' stop stop' on stopped (status.CutOff count) over ends = absurd (false≢true (sym over))
+  goes_on_as going going' whole whole' stop stop' on stopped (status.Protocol kind offset) over ends = absurd (false≢true (sym over))
+  goes_on_as going going' whole whole' stop stop' on stopped (status.Usage place) over ends = absurd ends
+  goes_on_as going going' whole whole' stop stop' on stopped (status.LogRefused file at why) over ends = absurd ends
+  goes_on_as going going' whole whole' stop stop' on stopped (status.NotBuilt what) over ends = absurd ends
 
   -- a stream that is over
-  over_as : (whole whole' going going' part part' : List Event → Type 0) → ((events : List Event) → whole events → whole' events) → (end : Status) → is_over end ≡ true
-      → Ends end o whole going part → Ends end o whole' going' part'
-  over_as whole whole' going going' part part' on status.Done over ends =
+  over_as : (whole whole' going going' : List Event → Type 0) (stop stop' : Type 0) → ((events : List Event) → whole events → whole' events) → (end : Status) → is_over end ≡ true
+      → Ends end o whole going stop → Ends end o whole' going' stop'
+  over_as whole whole' going going' stop stop' on status.Done over ends =
       record { taken = ends.taken; requests = ends.requests; moments = ends.moments; took = ends.took; is = ends.is; serves = on _ ends.serves }
-  over_as whole whole' going going' part part' on (status.CutOff count) over ends =
+  over_as whole whole' going going' stop stop' on (status.CutOff count) over ends =
       record { taken = ends.taken; requests = ends.requests; moments = ends.moments; took = ends.took; is = ends.is; serves = on _ ends.serves }
-  over_as whole whole' going going' part part' on (status.Protocol kind offset) over ends = record {
+  over_as whole whole' going going' stop stop' on (status.Protocol kind offset) over ends = record {
     taken = ends.taken;
     requests = ends.requests;
     moments = ends.moments;
@@ -174,69 +157,42 @@ module _ (o : Outside) where
     bad = ends.bad;
     serves = on _ ends.serves;
   }
-  over_as whole whole' going going' part part' on status.ReadFault over ends = absurd (false≢true over)
-  over_as whole whole' going going' part part' on status.TooLong over ends = absurd (false≢true over)
-  over_as whole whole' going going' part part' on status.DirFault over ends = absurd (false≢true over)
-  over_as whole whole' going going' part part' on status.Memory over ends = absurd (false≢true over)
-  over_as whole whole' going going' part part' on status.NumbersSpent over ends = absurd (false≢true over)
-  over_as whole whole' going going' part part' on status.WriteFault over ends = absurd (false≢true over)
-  over_as whole whole' going going' part part' on (status.Usage place) over ends = absurd (false≢true over)
-  over_as whole whole' going going' part part' on (status.LogRefused file at why) over ends = absurd (false≢true over)
-  over_as whole whole' going going' part part' on (status.NotBuilt what) over ends = absurd (false≢true over)
+  over_as whole whole' going going' stop stop' on status.ReadFault over ends = absurd (false≢true over)
+  over_as whole whole' going going' stop stop' on status.TooLong over ends = absurd (false≢true over)
+  over_as whole whole' going going' stop stop' on status.DirFault over ends = absurd (false≢true over)
+  over_as whole whole' going going' stop stop' on status.Memory over ends = absurd (false≢true over)
+  over_as whole whole' going going' stop stop' on status.NumbersSpent over ends = absurd (false≢true over)
+  over_as whole whole' going going' stop stop' on status.WriteFault over ends = absurd (false≢true over)
+  over_as whole whole' going going' stop stop' on (status.Usage place) over ends = absurd (false≢true over)
+  over_as whole whole' going going' stop stop' on (status.LogRefused file at why) over ends = absurd (false≢true over)
+  over_as whole whole' going going' stop stop' on (status.NotBuilt what) over ends = absurd (false≢true over)
 
-  -- a stream that is over, where the run stops then
-  over_within : (whole going part part' : List Event → Type 0) → ((events : List Event) → whole events → part' events) → (end : Status) → is_over end ≡ true
-      → Ends end o whole going part → StopsWithin o part'
-  over_within whole going part part' on status.Done over ends = record {
-    taken = ends.taken;
-    requests = ends.requests;
-    moments = ends.moments;
-    end = End.Rest 0;
-    took = ends.took;
-    goes_on = tt;
-    part = subst part' (sym (append-nil _)) (on _ ends.serves);
-  }
-  over_within whole going part part' on (status.CutOff count) over ends = record {
-    taken = ends.taken;
-    requests = ends.requests;
-    moments = ends.moments;
-    end = End.Rest 0;
-    took = ends.took;
-    goes_on = tt;
-    part = subst part' (sym (append-nil _)) (on _ ends.serves);
-  }
-  over_within whole going part part' on (status.Protocol kind offset) over ends = record {
-    taken = ends.taken;
-    requests = ends.requests;
-    moments = ends.moments;
-    end = End.Bad kind offset;
-    took = ends.took;
-    goes_on = (ends.going, ends.bad);
-    part = on _ ends.serves;
-  }
-  over_within whole going part part' on status.ReadFault over ends = absurd (false≢true over)
-  over_within whole going part part' on status.TooLong over ends = absurd (false≢true over)
-  over_within whole going part part' on status.DirFault over ends = absurd (false≢true over)
-  over_within whole going part part' on status.Memory over ends = absurd (false≢true over)
-  over_within whole going part part' on status.NumbersSpent over ends = absurd (false≢true over)
-  over_within whole going part part' on status.WriteFault over ends = absurd (false≢true over)
-  over_within whole going part part' on (status.Usage place) over ends = absurd (false≢true over)
-  over_within whole going part part' on (status.LogRefused file at why) over ends = absurd (false≢true over)
-  over_within whole going part part' on (status.NotBuilt what) over ends = absurd (false≢true over)
+  host_stops : (whole going : List Event → Type 0) (stop : Type 0) → (fault : Status) → IsHostStop fault → stop → Ends fault o whole going stop
+  host_stops whole going stop status.DirFault is stopped = stopped
+  host_stops whole going stop status.Memory is stopped = stopped
+  host_stops whole going stop status.NumbersSpent is stopped = stopped
+  host_stops whole going stop status.WriteFault is stopped = absurd is
+  host_stops whole going stop status.Done is stopped = absurd is
+  host_stops whole going stop (status.Usage place) is stopped = absurd is
+  host_stops whole going stop (status.LogRefused file at why) is stopped = absurd is
+  host_stops whole going stop status.ReadFault is stopped = absurd is
+  host_stops whole going stop (status.Protocol kind offset) is stopped = absurd is
+  host_stops whole going stop (status.CutOff n) is stopped = absurd is
+  host_stops whole going stop status.TooLong is stopped = absurd is
+  host_stops whole going stop (status.NotBuilt what) is stopped = absurd is
 
-  host_stops : (whole going part : List Event → Type 0) → (fault : Status) → IsHostStop fault → StopsWithin o part → Ends fault o whole going part
-  host_stops whole going part status.DirFault is within = within
-  host_stops whole going part status.Memory is within = within
-  host_stops whole going part status.NumbersSpent is within = within
-  host_stops whole going part status.WriteFault is within = absurd is
-  host_stops whole going part status.Done is within = absurd is
-  host_stops whole going part (status.Usage place) is within = absurd is
-  host_stops whole going part (status.LogRefused file at why) is within = absurd is
-  host_stops whole going part status.ReadFault is within = absurd is
-  host_stops whole going part (status.Protocol kind offset) is within = absurd is
-  host_stops whole going part (status.CutOff n) is within = absurd is
-  host_stops whole going part status.TooLong is within = absurd is
-  host_stops whole going part (status.NotBuilt what) is within = absurd is
+module _ {D : Type 0} (told : D → Told) (a d : Host D) (o : Outside) where
+  abbrev Whole : List Event → Type 0
+  Whole events = ServesToEnd told (stream_events events) a d o.got o.got'
+
+  abbrev Going : List Event → Type 0
+  Going events = Serves told (event.Join 1 ∷ events) a d o.got o.got'
+
+  abbrev Within : Type 0
+  Within = StopsWithin o (λ done within. ServesPart told (event.Join 1 ∷ done) within a d o.got o.got')
+
+  abbrev Stop : Type 0
+  Stop = StopsFirst told a d o ⊎ Within ⊎ StopsLast told a d o
 
 module _ {D : Type 0} (told : D → Told) (a b : Host D) (caught : IsCaughtUp told a) where
   -- the host stopped as client 1 came
@@ -245,44 +201,42 @@ module _ {D : Type 0} (told : D → Told) (a b : Host D) (caught : IsCaughtUp to
     where
       at_first : (left : Option (List ℕ)) (clock : ClockTold) (got : Option (List ℕ)) → PipeEnds fault told a b (record { left = left; left' = left; clock = clock; clock' = clock; got = got; got' = got })
       at_first left clock got =
-          let new : Stream = record { passed = 0; rest = [] } in
           let here : Outside = record { left = left; left' = left; clock = clock; clock' = clock; got = got; got' = got } in
-          host_stops here (λ events. ServesToEnd told (stream_events events) a b got got) (λ events. Serves told (event.Join 1 ∷ events) a b got got) (λ events. ServesPart told (stream_events events) a b got got) fault is
-          (record {
-            taken = [];
-            requests = [];
-            moments = [];
-            end = End.Rest 0;
-            took = record { consumed = Consumes-nil left; stream = new; read = new_read new refl refl; within = omega arith; served = refl; wanted = nothing_wanted; gave = none_told clock.given; each = refl };
-            goes_on = tt;
-            part = longer told a b came gone got got (part_broken told came a b got caught breaks);
-          })
+          host_stops here (Whole told a b here) (Going told a b here) (Stop told a b here) fault is
+          (inl (record { left = refl; clock = refl; part = part_broken told came a b got caught breaks }))
 
 module _ {D : Type 0} (told : D → Told) (a b c : Host D) (o : Outside) (come : Serves told came a b o.got o.got) (end : Status) (ends : SourceEnds end told b c o) where
-  behind : (events : List Event) → Serves told events b c o.got o.got' → Serves told (event.Join 1 ∷ events) a c o.got o.got'
+  abbrev Source : List Event → Type 0
+  Source events = Serves told events b c o.got o.got'
+
+  abbrev SourceStop : Type 0
+  SourceStop = StopsWithin o (λ done within. ServesPart told done within b c o.got o.got')
+
+  behind : (events : List Event) → Source events → Serves told (event.Join 1 ∷ events) a c o.got o.got'
   behind events = serves_both told a b c came events o.got o.got o.got' come
 
   -- client 1 stays
   pub stays_behind : is_over end ≡ false → PipeEnds end told a c o
   stays_behind over =
-      goes_on_as o (λ events. Serves told events b c o.got o.got') (λ events. Serves told (event.Join 1 ∷ events) a c o.got o.got')
-      (λ events. ServesPart told events b c o.got o.got') (λ events. ServesPart told (stream_events events) a c o.got o.got')
-      (λ events. Serves told events b c o.got o.got') (λ events. ServesToEnd told (stream_events events) a c o.got o.got')
-      behind (λ events part. longer told a c (event.Join 1 ∷ events) gone o.got o.got' (serves_part told a b c came events o.got o.got o.got' come part))
+      goes_on_as o Source (Going told a c o) Source (Whole told a c o) SourceStop (Stop told a c o) behind
+      (λ stops. inr (inl (within_as o (λ done within. ServesPart told done within b c o.got o.got') (λ done within. ServesPart told (event.Join 1 ∷ done) within a c o.got o.got')
+      (λ done within part. serves_part told a b c came done o.got o.got o.got' come within part) stops)))
       end over ends
 
   module _ (d : Host D) (over : is_over end ≡ true) where
     -- it went
     pub goes_behind : Makes told gone c d → PipeEnds end told a d o
     goes_behind makes =
-        over_as o (λ events. Serves told events b c o.got o.got') (λ events. ServesToEnd told (stream_events events) a d o.got o.got')
-        (λ events. Serves told events b c o.got o.got') (λ events. Serves told (event.Join 1 ∷ events) a d o.got o.got')
-        (λ events. ServesPart told events b c o.got o.got') (λ events. ServesPart told (stream_events events) a d o.got o.got')
+        over_as o Source (Whole told a d o) Source (Going told a d o) SourceStop (Stop told a d o)
         (λ events served. went told a c d (event.Join 1 ∷ events) o.got o.got' (behind events served) makes) end over ends
 
     -- the host stopped over it
     pub stops_behind : (fault : Status) → IsHostStop fault → Breaks told gone c d → PipeEnds fault told a d o
     stops_behind fault is breaks =
-        host_stops o (λ events. ServesToEnd told (stream_events events) a d o.got o.got') (λ events. Serves told (event.Join 1 ∷ events) a d o.got o.got') (λ events. ServesPart told (stream_events events) a d o.got o.got') fault is
-        (over_within o (λ events. Serves told events b c o.got o.got') (λ events. Serves told events b c o.got o.got') (λ events. ServesPart told events b c o.got o.got') (λ events. ServesPart told (stream_events events) a d o.got o.got')
-        (λ events served. stayed told a c d (event.Join 1 ∷ events) o.got o.got' (behind events served) breaks) end over ends)
+        host_stops o (Whole told a d o) (Going told a d o) (Stop told a d o) fault is
+        (inr (inr (record {
+          end = end;
+          over = over;
+          stream = over_as o Source (λ events. ServesPart told (event.Join 1 ∷ events) gone a d o.got o.got') Source (λ events. ⊥) SourceStop ⊥
+              (λ events served. stayed told a c d (event.Join 1 ∷ events) o.got o.got' (behind events served) breaks) end over ends;
+        })))

@@ -66,7 +66,7 @@ module _ {D : Type 0} (told : D → Told) (before : Host D) (left : Option (List
   Bad after o kind offset = pipe.Refuses o kind offset (λ events. Serves told events before after o.got o.got')
 
   abbrev Part : Host D → Outside → Type 0
-  Part after o = StopsWithin o (λ events. ServesPart told events before after o.got o.got')
+  Part after o = StopsWithin o (λ done within. ServesPart told done within before after o.got o.got')
 
   -- nothing was read
   pub begins : (stream : Stream) → IsCaughtUp told before → stream.passed ≡ 0 → stream.rest ≡ [] → At before stream 0 left clock got
@@ -190,7 +190,8 @@ module _ {D : Type 0} (told : D → Told) (before : Host D) (left : Option (List
               stream = next;
               read = read;
               within = omega (arith, p.size, p.within);
-              served = last_served p.requests words p.going; wanted = more_wanted words;
+              served = last_served p.requests words p.going;
+              wanted = more_wanted words;
               gave = more_gave clock'' served.0 served.1;
               each = more_each words served.0;
             };
@@ -202,7 +203,7 @@ module _ {D : Type 0} (told : D → Told) (before : Host D) (left : Option (List
                 (serves_both told before host after (served_events p.requests p.moments) (request_events served.0 words) got got' got'' p.serves served.2);
           }
 
-      pub stops_serving : AtMoment clock' clock'' (λ moment. ServesPart told (request_events moment words) host after got' got'') → Part after (seen left' clock'' got'')
+      pub stops_serving : AtMoment clock' clock'' (λ moment. ServesPart told [] (request_events moment words) host after got' got'') → Part after (seen left' clock'' got'')
       stops_serving part = record {
         taken = p.taken;
         requests = p.requests ++ words ∷ [];
@@ -213,13 +214,17 @@ module _ {D : Type 0} (told : D → Told) (before : Host D) (left : Option (List
           stream = next;
           read = request_on p.taken p.requests stream next words p.read takes;
           within = omega (arith, p.size, p.within);
-          served = last_served p.requests words p.going; wanted = more_wanted words;
+          served = last_served p.requests words p.going;
+          wanted = more_wanted words;
           gave = more_gave clock'' part.0 part.1;
           each = more_each words part.0;
         };
         goes_on = tt;
-        part = subst (λ events. ServesPart told events before after got got'') (sym (append-nil (served_events (p.requests ++ words ∷ []) (p.moments ++ part.0 ∷ [])) ∙ more_events words part.0))
-            (serves_part told before host after (served_events p.requests p.moments) (request_events part.0 words) got got' got'' p.serves part.2);
+        done = served_events p.requests p.moments;
+        within = request_events part.0 words;
+        stage = inr (record { front = p.requests; words = words; times = p.moments; moment = part.0; requests_are = refl; moments_are = refl; done_are = refl; within_are = refl });
+        part = subst (λ done. ServesPart told done (request_events part.0 words) before after got got'') (append-nil (served_events p.requests p.moments))
+            (serves_part told before host after (served_events p.requests p.moments) [] got got' got'' p.serves (request_events part.0 words) part.2);
       }
 
     -- what was told is a front of what the safe events told
@@ -247,8 +252,10 @@ module _ {D : Type 0} (told : D → Told) (before : Host D) (left : Option (List
         each = p.each;
       };
       goes_on = tt;
-      part = subst (λ events. ServesPart told events before host got got') (sym (append-nil (served_events p.requests p.moments)))
-          (whole_part told before host (served_events p.requests p.moments) got got' p.serves all_safe_now);
+      done = served_events p.requests p.moments;
+      within = [];
+      stage = inl (refl, inl refl);
+      part = whole_part told before host (served_events p.requests p.moments) got got' p.serves all_safe_now;
     }
 
     pub stops_here : Part host (seen left' clock' got')
@@ -351,7 +358,7 @@ module _ {D : Type 0} (told : D → Told) (before : Host D) (left : Option (List
         at_bad : IsReadAs p.taken p.requests next × Requests p.taken p.requests (End.Bad kind offset)
         at_bad = bad_on p.taken p.requests stream next kind offset p.read bad
 
-        within : ServesPart told (end_events (End.Bad kind offset)) host after got' got'' → Part after (seen left' clock' got'')
+        within : ServesPart told [] (end_events (End.Bad kind offset)) host after got' got'' → Part after (seen left' clock' got'')
         within part = record {
           taken = p.taken;
           requests = p.requests;
@@ -359,7 +366,11 @@ module _ {D : Type 0} (told : D → Told) (before : Host D) (left : Option (List
           end = End.Bad kind offset;
           took = record { consumed = p.consumed; stream = next; read = at_bad.0; within = omega (arith, p.size, p.within); served = none_behind p.requests p.going; wanted = p.wanted; gave = p.gave; each = p.each };
           goes_on = (p.going, at_bad.1);
-          part = serves_part told before host after (served_events p.requests p.moments) (end_events (End.Bad kind offset)) got got' got'' p.serves part;
+          done = served_events p.requests p.moments;
+          within = end_events (End.Bad kind offset);
+          stage = inl (refl, inr refl);
+          part = subst (λ done. ServesPart told done (end_events (End.Bad kind offset)) before after got got'') (append-nil (served_events p.requests p.moments))
+              (serves_part told before host after (served_events p.requests p.moments) [] got got' got'' p.serves (end_events (End.Bad kind offset)) part);
         }
 
         refused : Serves told (end_events (End.Bad kind offset)) host after got' got'' → Bad after (seen left' clock' got'') kind offset
@@ -389,7 +400,7 @@ module _ {D : Type 0} (told : D → Told) (before : Host D) (left : Option (List
         by_end (status.NotBuilt what) ends = absurd ends.0
 
 -- what a stop of serving is, as the end of a run
-pub served_stop : {D : Type 0} (told : D → Told) (before after : Host D) (o : Outside) (end : Status) → IsServeStop end → StopsWithin o (λ events. ServesPart told events before after o.got o.got') → SourceEnds end told before after o
+pub served_stop : {D : Type 0} (told : D → Told) (before after : Host D) (o : Outside) (end : Status) → IsServeStop end → StopsWithin o (λ done within. ServesPart told done within before after o.got o.got') → SourceEnds end told before after o
 served_stop told before after o status.DirFault is within = within
 served_stop told before after o status.Memory is within = within
 served_stop told before after o status.NumbersSpent is within = within
@@ -405,7 +416,7 @@ served_stop told before after o (status.NotBuilt what) is within = absurd is
 
 -- how a bad place that was refused ends
 pub refusal_stops : {D : Type 0} (end : Status) (kind : BadRequest) (offset : ℕ) (told : D → Told) (before after : Host D) (got got' : Option (List ℕ)) → IsServeStop end
-    → ServesPart told (end_events (End.Bad kind offset)) before after got got' → RefuseEnds end kind offset told before after got got'
+    → ServesPart told [] (end_events (End.Bad kind offset)) before after got got' → RefuseEnds end kind offset told before after got got'
 refusal_stops status.DirFault kind offset told before after got got' is part = (is, part)
 refusal_stops status.Memory kind offset told before after got got' is part = (is, part)
 refusal_stops status.NumbersSpent kind offset told before after got got' is part = (is, part)

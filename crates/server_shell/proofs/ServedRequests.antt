@@ -99,7 +99,7 @@ module _ {D : Type 0} (told : D → Told) (before after : Host D) (made : List E
 -- ---- a request that the host did not make to its end
 
 module _ {D : Type 0} (told : D → Told) (events : List Event) (before after : Host D) (got : Option (List ℕ)) (caught : IsCaughtUp told before) where
-  pub part_broken : Breaks told events before after → ServesPart told events before after got got
+  pub part_broken : Breaks told events before after → ServesPart told [] events before after got got
   part_broken breaks =
       let still = still_safe told before after breaks.made caught breaks.kept breaks.safe in
       record {
@@ -174,7 +174,7 @@ module _ {D : Type 0} (told : D → Told) (events : List Event) (before flushed 
         sent = subst (Appends got got') is all.sent;
       }
 
-  pub part_handed : (got got' : Option (List ℕ)) → HandsPart told flushed after got got' → ServesPart told events before after got got'
+  pub part_handed : (got got' : Option (List ℕ)) → HandsPart told flushed after got got' → ServesPart told [] events before after got got'
   part_handed got got' part =
       let same = part.hands.same in
       let is : part.bytes ≡ take (taken_by after - taken_by flushed) new_bytes = part.hands.bytes_are ∙ new_taken (taken_by after - taken_by flushed) in

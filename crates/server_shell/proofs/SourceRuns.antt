@@ -16,7 +16,7 @@ use Rattle.host_core.specs.Fold as fold
 use Rattle.durable_host.specs.Crash.{HoldsFrom}
 use Rattle.durable_host.specs.Host.{Host}
 use Rattle.durable_host.specs.Kept.{Kept, state_now}
-use Rattle.server_shell.specs.Making.{safe_bytes, tells, with_events, writes}
+use Rattle.server_shell.specs.Making.{IsLogged, safe_bytes, tells, with_events, writes}
 use Rattle.server_shell.specs.Requests.{Serves, ServesPart}
 use Rattle.server_shell.specs.Runs.{request_events, served_events}
 use Rattle.server_shell.specs.Stream.{IsCaughtUp}
@@ -54,38 +54,49 @@ module _ {D : Type 0} (told : D → Told) where
           (Appends-trans got got' got'' (tells (state_now a.kept) first) (tells (state_now b.kept) second) one.sent other.sent);
     }
 
-    pub serves_part : ServesPart told second b c got' got'' → ServesPart told (first ++ second) a c got got''
-    serves_part other = record {
-      made = first ++ other.made;
-      rest = other.rest;
-      parts = ap (λ events. first ++ events) other.parts ∙ sym (append_assoc first other.made other.rest);
-      kept = other.kept ∙ ap (with_events other.made) one.kept ∙ kept_twice a.kept first other.made;
-      keeps = other.keeps;
-      logged = logged_later told a b c first other.made one.kept one.log other.logged;
-      crash = both_crash told a b c first second one.kept one.crash other.crash;
-      bytes = tells (state_now a.kept) first ++ other.bytes;
-      sent = Appends-trans got got' got'' (tells (state_now a.kept) first) other.bytes one.sent other.sent;
-      count = other.count;
-      safely = sym (append_assoc (tells a.kept.opening a.kept.events) (tells (state_now a.kept) first) other.bytes)
-          ∙ ap (λ front. front ++ other.bytes) (sym told_b) ∙ other.safely;
-    }
+    pub serves_part : (within : List Event) → ServesPart told second within b c got' got'' → ServesPart told (first ++ second) within a c got got''
+    serves_part within other =
+        let front = tells (state_now a.kept) first in
+        let back = tells (state_now b.kept) second in
+        let both : front ++ back ≡ tells (state_now a.kept) (first ++ second) = ap (λ state. front ++ tells state second) now_b ∙ sym (said_more (state_now a.kept) first second) in
+        let bytes : front ++ (back ++ other.bytes) ≡ tells (state_now a.kept) (first ++ second) ++ other.bytes = sym (append_assoc front back other.bytes) ∙ ap (λ all. all ++ other.bytes) both in
+        record {
+          made = other.made;
+          rest = other.rest;
+          parts = other.parts;
+          kept = other.kept ∙ ap (with_events (second ++ other.made)) one.kept ∙ kept_twice a.kept first (second ++ other.made)
+              ∙ ap (λ events. with_events events a.kept) (sym (append_assoc first second other.made));
+          keeps = other.keeps;
+          logged = subst (λ events. IsLogged told events a c) (sym (append_assoc first second other.made))
+              (logged_later told a b c first (second ++ other.made) one.kept one.log other.logged);
+          crash = subst (λ events. LeavesOnly (told a.dir) (told c.dir) (HoldsFrom (with_events events a.kept) 0)) (sym (append_assoc first second within))
+              (both_crash told a b c first (second ++ within) one.kept one.crash other.crash);
+          bytes = other.bytes;
+          sent = subst (Appends got got'') bytes (Appends-trans got got' got'' front (back ++ other.bytes) one.sent other.sent);
+          count = other.count;
+          safely = ap (λ sent. tells a.kept.opening a.kept.events ++ sent) (sym bytes)
+              ∙ sym (append_assoc (tells a.kept.opening a.kept.events) front (back ++ other.bytes))
+              ∙ ap (λ all. all ++ (back ++ other.bytes)) (sym told_b) ∙ other.safely;
+        }
 
-  -- what was served to its end was in part
+  -- what was served to its end, and nothing behind it
   pub whole_part : (a b : Host D) (events : List Event) (got got' : Option (List ℕ)) → Serves told events a b got got' → (safe : (n : ℕ) × (tells b.kept.opening b.kept.events ≡ take n (safe_bytes b)))
-      → ServesPart told events a b got got'
-  whole_part a b events got got' one safe = record {
-    made = events;
-    rest = [];
-    parts = sym (append-nil events);
-    kept = one.kept;
-    keeps = one.caught_up.keeps;
-    logged = logged_whole told a b events one.log;
-    crash = one.crash;
-    bytes = tells (state_now a.kept) events;
-    sent = one.sent;
-    count = safe.0;
-    safely = sym (told_b a b b events [] got got' got' one) ∙ safe.1;
-  }
+      → ServesPart told events [] a b got got'
+  whole_part a b events got got' one safe =
+      let text = tells (state_now a.kept) events in
+      record {
+        made = [];
+        rest = [];
+        parts = refl;
+        kept = one.kept ∙ ap (λ all. with_events all a.kept) (sym (append-nil events));
+        keeps = one.caught_up.keeps;
+        logged = subst (λ all. IsLogged told all a b) (sym (append-nil events)) (logged_whole told a b events one.log);
+        crash = subst (λ all. LeavesOnly (told a.dir) (told b.dir) (HoldsFrom (with_events all a.kept) 0)) (sym (append-nil events)) one.crash;
+        bytes = [];
+        sent = subst (Appends got got') (sym (append-nil text)) one.sent;
+        count = safe.0;
+        safely = ap (λ sent. tells a.kept.opening a.kept.events ++ sent) (append-nil text) ∙ sym (told_b a b b events [] got got' got' one) ∙ safe.1;
+      }
 
 -- ---- one request more
 

@@ -11,7 +11,7 @@ use Rattle.resp_codec.specs.Requests.{End, IsReadAs, Requests, Served, quits, up
 use Rattle.resp_codec.specs.Stream.{Stream}
 use Rattle.durable_host.specs.Host.{Host}
 use Rattle.server_shell.specs.Requests.{Serves, ServesPart, ServesToEnd}
-use Rattle.server_shell.specs.Runs.{end_events, served_events, stream_events}
+use Rattle.server_shell.specs.Runs.{end_events, request_events, served_events, stream_events}
 use Rattle.server_shell.specs.declared.status.Status.{Status}
 use Rattle.server_shell.specs.declared.status.Status.TheVariants as status
 
@@ -134,45 +134,53 @@ pub record ServesLimit (o : Outside) (R : List Event → Type 0) : Type 0 where
   pub each : length moments ≡ length requests
   pub serves : R (served_events requests moments)
 
--- Of these requests, and of a bad place behind them, some events were made, and then the run
--- stopped.
-pub record StopsWithin (o : Outside) (R : List Event → Type 0) : Type 0 where
+-- of these requests the last is not served to its end
+pub record IsInLast (requests : List (List (List ℕ))) (moments : List ℕ)
+    (done within : List Event) : Type 0 where
+  pub front : List (List (List ℕ))
+  pub words : List (List ℕ)
+  pub times : List ℕ
+  pub moment : ℕ
+  pub requests_are : requests ≡ front ++ words ∷ []
+  pub moments_are : moments ≡ times ++ moment ∷ []
+  pub done_are : done ≡ served_events front times
+  pub within_are : within ≡ request_events moment words
+
+-- how far serving came: all requests are served, and it stopped behind them or at a bad place there,
+-- or it stopped in the last one
+abbrev pub IsStage : List (List (List ℕ)) → List ℕ → End → (done within : List Event) → Type 0
+IsStage requests moments end done within =
+    ((done ≡ served_events requests moments) × ((within ≡ []) ⊎ (within ≡ end_events end)))
+    ⊎ IsInLast requests moments done within
+
+-- Of these requests, and of a bad place behind them, all events were made but for the last ones,
+-- and then the run stopped.
+pub record StopsWithin (o : Outside) (R : (done within : List Event) → Type 0) : Type 0 where
   pub taken : List ℕ
   pub requests : List (List (List ℕ))
   pub moments : List ℕ
   pub end : End
   pub took : Took o taken requests moments
   pub goes_on : GoesOnTo taken requests end
-  pub part : R (served_events requests moments ++ end_events end)
+  pub done : List Event
+  pub within : List Event
+  pub stage : IsStage requests moments end done within
+  pub part : R done within
 
--- How serving ends, by its end: what is so of the events of a stream that came to its end, of one
--- that goes on, and of one that was left within. Serving has no end that is not named.
-abbrev pub Ends : Status → Outside → (whole going part : List Event → Type 0) → Type 0
-Ends status.Done o whole going part = ServesAll o (IsAll o) whole
-Ends (status.CutOff count) o whole going part =
+-- How serving ends, by its end: what is so of the events of a stream that came to its end, and of
+-- one that goes on; and what is so where it was stopped. Serving has no end that is not named.
+abbrev pub Ends : Status → Outside → (whole going : List Event → Type 0) → Type 0 → Type 0
+Ends status.Done o whole going stop = ServesAll o (IsAll o) whole
+Ends (status.CutOff count) o whole going stop =
     ServesAll o (λ taken requests. EndsWithin o taken requests count) whole
-Ends (status.Protocol kind offset) o whole going part = Refuses o kind offset whole
-Ends status.ReadFault o whole going part = ServesAll o WantsMore going
-Ends status.TooLong o whole going part = ServesLimit o going
-Ends status.DirFault o whole going part = StopsWithin o part
-Ends status.Memory o whole going part = StopsWithin o part
-Ends status.NumbersSpent o whole going part = StopsWithin o part
-Ends status.WriteFault o whole going part = StopsWithin o part
-Ends other o whole going part = ⊥
-
--- the requests of a source
-abbrev pub SourceEnds : {D : Type 0} → Status → (D → Told) → Host D → Host D → Outside → Type 0
-SourceEnds end told before after o =
-    Ends end o (λ events. Serves told events before after o.got o.got')
-    (λ events. Serves told events before after o.got o.got')
-    (λ events. ServesPart told events before after o.got o.got')
-
--- Client 1 comes before them, and goes where its stream came to its end.
-abbrev pub PipeEnds : {D : Type 0} → Status → (D → Told) → Host D → Host D → Outside → Type 0
-PipeEnds end told before after o =
-    Ends end o (λ events. ServesToEnd told (stream_events events) before after o.got o.got')
-    (λ events. Serves told (event.Join 1 ∷ events) before after o.got o.got')
-    (λ events. ServesPart told (stream_events events) before after o.got o.got')
+Ends (status.Protocol kind offset) o whole going stop = Refuses o kind offset whole
+Ends status.ReadFault o whole going stop = ServesAll o WantsMore going
+Ends status.TooLong o whole going stop = ServesLimit o going
+Ends status.DirFault o whole going stop = stop
+Ends status.Memory o whole going stop = stop
+Ends status.NumbersSpent o whole going stop = stop
+Ends status.WriteFault o whole going stop = stop
+Ends other o whole going stop = ⊥
 
 -- whether the stream came to its end, so that its client goes
 abbrev pub is_over : Status → Bool
@@ -180,3 +188,36 @@ is_over status.Done = true
 is_over (status.CutOff count) = true
 is_over (status.Protocol kind offset) = true
 is_over other = false
+
+-- the requests of a source
+abbrev pub SourceEnds : {D : Type 0} → Status → (D → Told) → Host D → Host D → Outside → Type 0
+SourceEnds end told before after o =
+    Ends end o (λ events. Serves told events before after o.got o.got')
+    (λ events. Serves told events before after o.got o.got')
+    (StopsWithin o (λ done within. ServesPart told done within before after o.got o.got'))
+
+-- The run stopped as client 1 came, and nothing was read.
+pub record StopsFirst {D : Type 0} (told : D → Told) (before after : Host D) (o : Outside)
+    : Type 0 where
+  pub left : o.left' ≡ o.left
+  pub clock : o.clock' ≡ o.clock
+  pub part : ServesPart told [] (event.Join 1 ∷ []) before after o.got o.got'
+
+-- The stream came to its end, and the run stopped as client 1 went.
+pub record StopsLast {D : Type 0} (told : D → Told) (before after : Host D) (o : Outside)
+    : Type 0 where
+  pub end : Status
+  pub over : is_over end ≡ true
+  pub stream : Ends end o
+      (λ events. ServesPart told (event.Join 1 ∷ events) (event.Gone 1 ∷ []) before after o.got o.got')
+      (λ events. ⊥) ⊥
+
+-- Client 1 comes before them, and goes where its stream came to its end.
+abbrev pub PipeEnds : {D : Type 0} → Status → (D → Told) → Host D → Host D → Outside → Type 0
+PipeEnds end told before after o =
+    Ends end o (λ events. ServesToEnd told (stream_events events) before after o.got o.got')
+    (λ events. Serves told (event.Join 1 ∷ events) before after o.got o.got')
+    (StopsFirst told before after o
+    ⊎ StopsWithin o
+    (λ done within. ServesPart told (event.Join 1 ∷ done) within before after o.got o.got')
+    ⊎ StopsLast told before after o)

@@ -38,22 +38,23 @@ pub record ServesToEnd {D : Type 0} (told : D → Told) (events : List Event) (b
   pub count : ℕ
   pub safely : tells after.kept.opening after.kept.events ≡ take count (safe_bytes after)
 
--- They may not have been served to their end: some were made, in order from the first, and of what they told
--- client 1 a front was sent, which the safe events told.
-pub record ServesPart {D : Type 0} (told : D → Told) (events : List Event)
+-- The first events were served, and what they told was sent. Of those behind them some were made,
+-- in order, and of what they told a front was sent. The safe events told all that was sent.
+pub record ServesPart {D : Type 0} (told : D → Told) (done within : List Event)
     (before after : Host D) (got got' : Option (List ℕ)) : Type 0 where
   pub made : List Event
   pub rest : List Event
-  pub parts : events ≡ made ++ rest
-  pub kept : after.kept ≡ with_events made before.kept
+  pub parts : within ≡ made ++ rest
+  pub kept : after.kept ≡ with_events (done ++ made) before.kept
   pub keeps : KeepsHistory told after
-  pub logged : IsLogged told made before after
+  pub logged : IsLogged told (done ++ made) before after
   pub crash : LeavesOnly (told before.dir) (told after.dir)
-      (HoldsFrom (with_events events before.kept) 0)
+      (HoldsFrom (with_events (done ++ within) before.kept) 0)
   pub bytes : List ℕ
-  pub sent : Appends got got' bytes
+  pub sent : Appends got got' (tells (state_now before.kept) done ++ bytes)
   pub count : ℕ
-  pub safely : tells before.kept.opening before.kept.events ++ bytes ≡ take count (safe_bytes after)
+  pub safely : tells before.kept.opening before.kept.events
+      ++ (tells (state_now before.kept) done ++ bytes) ≡ take count (safe_bytes after)
 
 -- at a moment that the clock gave
 abbrev pub AtMoment : ClockTold → ClockTold → (ℕ → Type 0) → Type 0

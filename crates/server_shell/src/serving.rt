@@ -34,7 +34,7 @@ pub(crate) fn serve_request<D: Dir, K: Sink, C: Clock>(
         Serves D.told (request_events moment words) host.old host.new
         (K.told sink.old).got (K.told sink.new).got)) }
     ensures part { OnErr result (AtMoment (C.told clock.old) (C.told clock.new) (λ moment.
-        ServesPart D.told (request_events moment words) host.old host.new
+        ServesPart D.told [] (request_events moment words) host.old host.new
         (K.told sink.old).got (K.told sink.new).got)) }
     ensures counts { faults_of (D.told host.new.dir) 0 (K.told sink.new)
         ≡ counted_by (end_of result) (faults_of (D.told host.old.dir) 0 (K.told sink.old)) }
@@ -59,7 +59,7 @@ pub(crate) fn refuse_stream<D: Dir, K: Sink>(
     ensures served { (offset : ℕ) → OnOk result (Serves D.told (end_events (End.Bad kind offset))
         host.old host.new (K.told sink.old).got (K.told sink.new).got) }
     ensures part { (offset : ℕ) → OnErr result
-        (ServesPart D.told (end_events (End.Bad kind offset)) host.old host.new
+        (ServesPart D.told [] (end_events (End.Bad kind offset)) host.old host.new
         (K.told sink.old).got (K.told sink.new).got) }
     ensures counts { faults_of (D.told host.new.dir) 0 (K.told sink.new)
         ≡ counted_by (end_of result) (faults_of (D.told host.old.dir) 0 (K.told sink.old)) }

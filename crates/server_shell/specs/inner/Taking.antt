@@ -1,5 +1,5 @@
 -- What the parts of serving a source see.
-use Rattle.std.specs.Prelude.{◌≡◌, ◌^◌, ℕ, List, length, Option}
+use Rattle.std.specs.Prelude.{◌≡◌, ◌^◌, ℕ, List, [], length, Option}
 use Rattle.std.specs.Io.KnownBytes.{Consumes, Keeps}
 use Rattle.core_types.specs.Causes.{one_more}
 use Rattle.io_edges.specs.Told.{SourceTold}
@@ -29,4 +29,4 @@ RefuseEnds (status.Protocol kind' offset') kind offset told before after got got
     (kind' ≡ kind) × (offset' ≡ offset)
     × Serves told (end_events (End.Bad kind offset)) before after got got'
 RefuseEnds end kind offset told before after got got' =
-    IsServeStop end × ServesPart told (end_events (End.Bad kind offset)) before after got got'
+    IsServeStop end × ServesPart told [] (end_events (End.Bad kind offset)) before after got got'
