@@ -19,7 +19,7 @@ COUNT = 1_000_000
 
 
 def write_log(folder, count):
-    """A log of so many SETs of different keys, each with a value of 16 bytes."""
+    """A log of this many SETs of different keys, each with a value of 16 bytes."""
     with open(os.path.join(folder, "appendonly.aof"), "wb") as log:
         for n in range(count):
             key = b"key:%d" % n
@@ -27,7 +27,7 @@ def write_log(folder, count):
 
 
 def write_mixed_log(folder, count):
-    """A log of so many changes: by turns an item of a list, a name of a hash, a string, and its deadline in 2100."""
+    """A log of this many changes: by turns an item of a list, a name of a hash, a string, and its deadline in 2100."""
     with open(os.path.join(folder, "appendonly.aof"), "wb") as log:
         for n in range(count // 4):
             item = b"item-%011d" % n
@@ -38,7 +38,7 @@ def write_mixed_log(folder, count):
 
 
 def opened(count, write=write_log):
-    """Seconds of the clock and of the processor, and peak kilobytes, of opening a log of so many changes."""
+    """Seconds of the clock and of the processor, and peak kilobytes, of opening a log of this many changes."""
     with tempfile.TemporaryDirectory() as folder:
         write(folder, count)
         # A small interpreter starts it, since a child's peak counts what its parent held.

@@ -1,5 +1,5 @@
--- A tree by its numbers as the finite map that its entries make. It serves the clauses of `Table` and
--- `Waiters` on each look-up and change.
+-- A tree by its numbers as the finite map that its entries make. It serves the clauses of `Table`
+-- and `Waiters` on each look-up and change.
 use Rattle.std.proofs.Common.{◌≡◌, ℕ, ◌+◌, cond, List, [], ◌∷◌, Some, None, is_some, add-one, refl, sym, ap, ◌∙◌, length}
 use Rattle.std.specs.declared.cmp.Ordering.TheVariants.{Less}
 use Rattle.std.specs.Ordering.{nat_cmp, is_eq}

@@ -1,5 +1,5 @@
--- What `ticket_of` and `due_at` find, and that the indexes find it too. It serves the clauses of `due` and `gone`, and
--- the laws on both.
+-- What `ticket_of` and `due_at` find, and that the indexes find it too. It serves the clauses of
+-- `due` and `gone`, and the laws on both.
 use Rattle.std.proofs.Common.{◌≡◌, ◌⊎◌, inl, inr, ⊎_elim, ℕ, ◌<◌, ◌≤◌, ◌==◌, Bool, true, false, cond, List, [], ◌∷◌, filter, Option, None, Some, is_some, IsSome, nat_le, refl, sym, ap, subst, ◌∙◌, arith, leb-true, le-leb}
 use Rattle.std.specs.declared.cmp.Ordering.{Ordering}
 use Rattle.std.specs.declared.cmp.Ordering.TheVariants.{Less, Equal, Greater}

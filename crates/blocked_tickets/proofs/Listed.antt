@@ -1,5 +1,5 @@
--- The entries of a finite map, and what the definitions that go over them find. It serves the clauses of `due` and
--- `gone`, and the laws on both.
+-- The entries of a finite map, and what the definitions that go over them find. It serves the
+-- clauses of `due` and `gone`, and the laws on both.
 use Rattle.std.proofs.Common.{◌≡◌, ℕ, Bool, true, false, cond, ◌&&◌, List, [], ◌∷◌, filter, Option, None, Some, refl, sym, ap, subst, ◌∙◌, eqb-true}
 use Rattle.std.specs.declared.cmp.Ordering.{Ordering}
 use Rattle.std.specs.declared.cmp.Ordering.TheVariants.{Less, Equal, Greater}

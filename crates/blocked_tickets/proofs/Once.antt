@@ -1,5 +1,5 @@
--- Lists in which each number stands once. They serve the clause of `leave` on what is left, and that the ready
--- tickets stand in their line once.
+-- Lists in which each number stands once. They serve the clause of `leave` on what is left, and
+-- that the ready tickets stand in their line once.
 use Rattle.std.proofs.Common.{◌≡◌, ℕ, ◌==◌, Bool, true, false, cond, not, ◌&&◌, ◌||◌, List, [], ◌∷◌, ◌++◌, filter, nat_eq, Option, Some, refl, sym, ap, subst, ◌∙◌}
 use Rattle.std.specs.List.{IsDistinct, AllByRecursion}
 use Rattle.std.specs.Option.{option_to_list}

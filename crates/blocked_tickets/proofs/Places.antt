@@ -1,4 +1,5 @@
--- Each ready ticket has a place. It serves what `push` requires in `unblock`, and the room that `admit` makes.
+-- Each ready ticket has a place. It serves what `push` requires in `unblock`, and the room that
+-- `admit` makes.
 use Rattle.std.proofs.Common.{◌≡◌, ℕ, ◌<◌, ◌≤◌, ◌==◌, Bool, true, false, ◌||◌, is_some, List, [], ◌∷◌, length, Option, None, Some, IsSome, Result, Ok, Err, OnOk, slice_get, nat_eq, refl, sym, ap, ◌∙◌, arith, eqb-true}
 use Rattle.std.specs.Ordering.{nat_cmp}
 use Rattle.std.specs.Option.{option_and_then, IfSome}

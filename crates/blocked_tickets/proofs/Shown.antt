@@ -1,5 +1,5 @@
--- What a table shows at each number after a step. It serves the clauses of `Tickets` on what each call leaves, and
--- the invariant.
+-- What a table shows at each number after a step. It serves the clauses of `Tickets` on what each
+-- call leaves, and the invariant.
 use Rattle.std.proofs.Common.{◌≡◌, ℕ, ◌==◌, Bool, true, false, cond, Option, None, Some, refl, sym, ap, ◌∙◌, eqb-true}
 use Rattle.std.specs.Ordering.{nat_cmp}
 use Rattle.std.specs.Option.{option_and_then, option_map_or}

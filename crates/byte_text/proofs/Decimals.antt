@@ -1,4 +1,5 @@
--- Serves the laws `decimals_are_canonical` and `decimals_are_short`, and `value` of `read_u64` and `read_i64`.
+-- Serves the laws `decimals_are_canonical` and `decimals_are_short`, and `value` of `read_u64` and
+-- `read_i64`.
 use Rattle.std.proofs.Common.{◌≡◌, ◌≢◌, ◌<◌, ◌^◌, ◌&&◌, if◌then◌else◌, nat_lt, ℕ, suc, ℤ, pos, negsuc, Bool, true, false, List, [], ◌∷◌, drop, get_or, Option, Some, None, ap, ◌∙◌, inl, inr, refl, arith, FitsSigned}
 use Rattle.std.specs.Int.{w64}
 use Rattle.std.specs.Fmt.{decimal, signed_decimal}

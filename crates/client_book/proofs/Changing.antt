@@ -1,5 +1,5 @@
--- Serves the clauses of `Book` that say what one call leaves, and what the book says of a client: the table of
--- entries as the register that it is seen as.
+-- Serves the clauses of `Book` that say what one call leaves, and what the book says of a client:
+-- the table of entries as the register that it is seen as.
 use Rattle.std.proofs.Common.{◌≡◌, refl, sym, ap, subst, ◌∙◌, ℕ, ◌+◌, ◌-◌, ◌==◌, ◌<◌, ◌≤◌, min, Bool, true, false, cond, List, [], ◌∷◌, ◌++◌, map, slice_get, length, drop, Option, Some, None, is_some, IsSome, IfSome, arith, eq-eqb, length-drop}
 use Rattle.std.specs.Option.{option_map, option_to_list}
 use Rattle.std.specs.Ordering.{nat_cmp, eq_by_cmp}

@@ -1,4 +1,5 @@
--- Serves `mark_all` and `touch`: the clients that are listed for a key are marked, and no other watches it.
+-- Serves `mark_all` and `touch`: the clients that are listed for a key are marked, and no other
+-- watches it.
 use Rattle.std.proofs.Common.{◌≡◌, ◌==◌, refl, sym, ap, subst, ◌∙◌, ℕ, Bool, true, false, cond, ◌||◌, List, ◌∷◌, Option, Some, None, IfSome, eq-eqb}
 use Rattle.std.specs.Option.{option_map}
 use Rattle.std.specs.List.{list_any}

@@ -1,5 +1,5 @@
--- What a search finds among commands in the order of their names, and what stands there after one was added. It
--- serves the clauses of `find` and `add`, and the invariant.
+-- What a search finds among commands in the order of their names, and what stands there after one
+-- was added. It serves the clauses of `find` and `add`, and the invariant.
 use Rattle.std.proofs.Common.{◌≡◌, ℕ, ◌+◌, ◌<◌, ◌≤◌, zero, suc, cond, is_some, IsSome, List, [], ◌∷◌, length, map, get_or, Some, None, Result, Ok, Err, add-one, refl, sym, ap, subst, ◌∙◌, arith}
 use Rattle.std.specs.declared.cmp.Ordering.{Ordering}
 use Rattle.std.specs.declared.cmp.Ordering.TheVariants.{Less}

@@ -1,4 +1,5 @@
--- What the fields of a hash are, of the entries of the map behind it. Serves the clauses of HashBody.
+-- What the fields of a hash are, of the entries of the map behind it. Serves the clauses of
+-- HashBody.
 use Rattle.std.proofs.Common.{◌≡◌, ℕ, zero, suc, ◌+◌, ◌<◌, Bool, true, false, not, cond, nat_lt, position, List, [], ◌∷◌, length, map, take, slice_get, Option, Some, None, if◌then◌else◌, unwrap_or, refl, sym, subst, ap, ◌∙◌, arith}
 use Rattle.std.proofs.lemmas.Bool.{ltb-true}
 use Rattle.std.proofs.lemmas.Map.Entries.{length-keys_of}

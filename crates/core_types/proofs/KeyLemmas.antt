@@ -1,4 +1,5 @@
--- What the words over the keys say of each other. Serves the laws `keys_by_key` and `keyspace_is_kept`.
+-- What the words over the keys say of each other. Serves the laws `keys_by_key` and
+-- `keyspace_is_kept`.
 use Rattle.std.proofs.Common.{◌≡◌, ℕ, ◌+◌, ◌-◌, Bool, true, false, List, Option, Some, None, is_some, unwrap_or, if◌then◌else◌, refl, sym, ap, subst, ◌∙◌}
 use Rattle.std.proofs.lemmas.Option.{none-some}
 use Rattle.std.specs.Option.{option_and_then}

@@ -39,7 +39,8 @@ either : (a b : Bool) → false ≡ (a && b) → (a ≡ false) ⊎ (b ≡ false)
 either true b e = inr (sym e)
 either false b e = inl refl
 
--- one step, where `removed` of at most `most` items are gone: how many are gone then, and what that leaves
+-- one step, where `removed` of at most `most` items are gone: how many are gone then, and what that
+-- leaves
 pub step : (gone : Bool) (left removed most : ℕ) (item : List ℕ) (items : List (List ℕ)) → left < length items → gone ≡ (nat_lt removed most && bytes_eq (slice_index_or items 0 []) item) → going_round left (most - (removed + (if gone then 1 else 0))) item (turned_list gone items) ≡ going_round (suc left) (most - removed) item items
 step gone left removed most item [] there is = absurd (omega (arith, there))
 step true left removed most item (x ∷ xs) there is =

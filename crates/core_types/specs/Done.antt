@@ -39,8 +39,8 @@ module _ {B : Type 0} where
   changed Change.Goes old = None
 
   -- An answer makes a change, where a value that was there is `now` in place of `old`: a value that
-  -- changes is changed in place, and one that is new or set is put. One that is to be put in place of
-  -- another leaves that as it is.
+  -- changes is changed in place, and one that is new or set is put. One that is to be put in place
+  -- of another leaves that as it is.
   abbrev pub Makes : After B → Option B → Option B → Change B → Type 0
   Makes after.Keep old now Change.Stays = now ≡ old
   Makes after.Keep old now (Change.Becomes body) = now ≡ Some body

@@ -1,5 +1,5 @@
--- The keys: a finite map from byte strings to values with deadlines. All else speaks of them through
--- these words.
+-- The keys: a finite map from byte strings to values with deadlines. All else speaks of them
+-- through these words.
 use Rattle.std.specs.Prelude.{ℕ, List, Option, None, Some}
 use Rattle.std.specs.Option.{option_and_then, option_map}
 use Rattle.std.specs.Ordering.{nat_cmp}

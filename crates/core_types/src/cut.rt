@@ -12,9 +12,9 @@ pub struct Cut {
     pub end: usize,
 }
 
-/// Of `size` places, those that the range from `first` to `last` takes. A number below 0 counts from
-/// the end. The range is cut where it begins before the first place or ends after the last; where it
-/// ends before it begins it takes none.
+/// Of `size` places, those that the range from `first` to `last` takes. A number below 0 counts
+/// from the end. The range is cut where it begins before the first place or ends after the last;
+/// where it ends before it begins it takes none.
 pub fn cut_range(size: usize, first: i64, last: i64) -> Cut
     ensures end { result.end ≡ range_end size last }
     ensures start { result.start ≡ min (range_start size first) (range_end size last) }

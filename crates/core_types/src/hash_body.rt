@@ -15,8 +15,8 @@ use std::marker::Model;
 use std::mem;
 
 /// Fields in order of insertion, with distinct names. Finding a name and putting a field cost O(1)
-/// expected, under any names: they are hashed with the keys that `new` was given, which clients don't
-/// know.
+/// expected, under any names: they are hashed with the keys that `new` was given, which clients
+/// don't know.
 #[derive(Debug, Drop)]
 pub struct HashBody {
     fields: IndexMap<Vec<u8>, Blob, RandomState>,
@@ -84,8 +84,8 @@ impl HashBody {
         Some(value)
     }
 
-    /// Puts a field: a name that is there gets the value, in place of the one that is given back, and
-    /// takes no memory; a new name goes last. On an `Err` the value is dropped.
+    /// Puts a field: a name that is there gets the value, in place of the one that is given back,
+    /// and takes no memory; a new name goes last. On an `Err` the value is dropped.
     pub fn put(&mut self, alloc: Global, name: &[u8], value: Blob) -> Result<Option<Blob>, NoMemory>
         ensures before { IfOk result (λ before. before ≡ field_value self.old name.now) }
         ensures ok { OnOk result
@@ -101,8 +101,8 @@ impl HashBody {
         }
     }
 
-    /// Takes out a name: its value, where there was one. The other fields keep their order. Takes no
-    /// memory, and moves the fields behind it.
+    /// Takes out a name: its value, where there was one. The other fields keep their order. Takes
+    /// no memory, and moves the fields behind it.
     pub fn remove(&mut self, name: &[u8]) -> Option<Blob>
         ensures before { result ≡ field_value self.old name.now }
         ensures left { self.new ≡ without_field self.old name.now }

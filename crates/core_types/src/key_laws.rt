@@ -5,8 +5,8 @@ ghost use Rattle.core_types.specs.Keys.{KeysOf, no_keys};
 ghost use Rattle.core_types.specs.Keyspace.{IsKeyspace};
 ghost use Rattle.core_types.specs.KeyLaws.{KeysByKey, KeyspaceIsKept};
 
-/// The keys are known by what each key has. Setting or removing a key changes that key alone, and the
-/// count by one where the key was not there, or was.
+/// The keys are known by what each key has. Setting or removing a key changes that key alone, and
+/// the count by one where the key was not there, or was.
 pub fn keys_by_key<N>()
     ensures { KeysByKey N }
 {}

@@ -136,8 +136,8 @@ impl ListBody {
         keep_range(&mut self.items, start, end);
     }
 
-    /// Takes out the first items that are equal to this one, `most` of them or as many as there are:
-    /// how many. Takes no memory.
+    /// Takes out the first items that are equal to this one, `most` of them or as many as there
+    /// are: how many. Takes no memory.
     pub fn remove_first(&mut self, most: usize, item: &[u8]) -> usize
         ensures left { self.new ≡ without_first most item.now self.old }
         ensures count { result + length self.new ≡ length self.old }

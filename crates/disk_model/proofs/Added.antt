@@ -19,7 +19,8 @@ use Rattle.disk_model.proofs.Settled.{safe_left, settled_number}
 use Rattle.disk_model.specs.declared.file_name.FileName.{FileName}
 use Rattle.disk_model.specs.declared.file_name.FileName.TheVariants.{Log, LogTemp, Dump, DumpTemp}
 
--- Where what is left of a file after one change is left of it after another, so it is whichever file it was.
+-- Where what is left of a file after one change is left of it after another, so it is whichever
+-- file it was.
 left_swap : (f g : Stored → Stored) → ((one : Stored) (image : Option (List ℕ)) → LeavesFile (Some (f one)) image → LeavesFile (Some (g one)) image)
     → (number n : ℕ) (files : List Stored) (image : Option (List ℕ)) → LeavesFile (slice_get (with_stored f number files) n) image → LeavesFile (slice_get (with_stored g number files) n) image
 left_swap f g swap number n [] image leaves = leaves
@@ -144,7 +145,8 @@ standing_left change disk image new n sound at same there =
       ];
     }
 
--- What is left behind one change more of a name's file: what was left before, or the file whole and the change in part.
+-- What is left behind one change more of a name's file: what was left before, or the file whole and
+-- the change in part.
 record IsPartly (name : FileName) (one : Change) (disk : Disk) (image : Files) : Type 0 where
   before : Files
   leaves : Leaves disk before
@@ -415,7 +417,8 @@ front_done count (Call.Create name) disk image leaves = leaves
 front_done count (Call.Rename from to) disk image leaves = leaves
 front_done count Call.SyncNames disk image leaves = leaves
 
--- However a call came out, it leaves nothing else than was left before, or than it leaves where it is done.
+-- However a call came out, it leaves nothing else than was left before, or than it leaves where it
+-- is done.
 pub left_however : (call : Call) (outcome : Outcome) (disk : Disk) (image : Files) → Leaves (left_by call outcome disk) image → Leaves disk image ⊎ Leaves (done call disk) image
 left_however call Outcome.Done disk image leaves = inr leaves
 left_however call Outcome.FailedDone disk image leaves = inr leaves

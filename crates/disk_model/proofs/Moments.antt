@@ -210,7 +210,8 @@ further a b c P first second = record {
   each = λ image left. elim (left_in_parts first.more second.more a b c image first.goes_on second.goes_on left) [ inl early ↦ first.each image early | inr late ↦ second.each image late ];
 }
 
--- One call is one, where what a crash leaves before it has P, and what one leaves after it where it is done.
+-- One call is one, where what a crash leaves before it has P, and what one leaves after it where it
+-- is done.
 pub by_call : (call : Call) (old new : Told) (P : Files → Type 0) → Was call old new → ((image : Files) → MayLeave (disk_told old) image → P image)
     → ((image : Files) → MayLeave (option_map (done call) (disk_told old)) image → P image) → LeavesOnly old new P
 by_call call old new P was before after_it = record {

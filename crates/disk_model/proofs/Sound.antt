@@ -11,13 +11,15 @@ AreDistinct names = (a b : FileName) (number : ℕ) → number_of a names ≡ So
 abbrev pub AreBelow : ℕ → Names → Type 0
 AreBelow bound names = (name : FileName) (number : ℕ) → number_of name names ≡ Some number → number < bound
 
--- The files that the changes made have numbers from the bound on, each above those before it, and below the end.
+-- The files that the changes made have numbers from the bound on, each above those before it, and
+-- below the end.
 abbrev pub AreFresh : ℕ → List NameChange → ℕ → Type 0
 AreFresh bound [] end = bound ≤ end
 AreFresh bound (NameChange.Created name number ∷ more) end = (bound ≤ number) × AreFresh (suc number) more end
 AreFresh bound (NameChange.Renamed from to ∷ more) end = AreFresh bound more end
 
--- The synced names stand for files, each for another, and each file that was made since has a number of its own.
+-- The synced names stand for files, each for another, and each file that was made since has a
+-- number of its own.
 pub record IsSound (disk : Disk) : Type 0 where
   pub bound : ℕ
   pub distinct : AreDistinct disk.names

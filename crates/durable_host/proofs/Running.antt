@@ -1,4 +1,5 @@
--- Serves clauses happens, stops and kept of `DurableHost::step`: how each end of a step leaves the parts.
+-- Serves clauses happens, stops and kept of `DurableHost::step`: how each end of a step leaves the
+-- parts.
 use Rattle.std.proofs.Common.{◌≡◌, ◌<◌, refl, sym, ap, ap₂, subst, ◌∙◌, ℕ, ◌-◌, ◌^◌, Bool, List, [], ◌++◌, append-nil, Option, Some, None, IfSome, IsSome}
 use Rattle.std.specs.Option.{option_map}
 use Rattle.std.proofs.lemmas.List.{append_assoc}

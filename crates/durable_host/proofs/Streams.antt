@@ -1,4 +1,5 @@
--- Serves clauses happens, stops and kept of `DurableHost::step`, and kept of `take_out`: what clients took and may take.
+-- Serves clauses happens, stops and kept of `DurableHost::step`, and kept of `take_out`: what
+-- clients took and may take.
 use Rattle.std.proofs.Common.{◌≡◌, ◌≤◌, refl, sym, ap, subst, ◌∙◌, ℕ, ◌+◌, ◌-◌, Bool, true, false, cond, List, [], length, take, drop, length-append, length-drop, length-take, take-take, drop-drop, Option, Some, None, IfSome, IsSome, arith, inl, inr}
 use Rattle.std.specs.Option.{option_map}
 use Rattle.std.specs.Ordering.{nat_cmp, eq_by_cmp}

@@ -1,4 +1,5 @@
--- Serves clauses happens and kept of `DurableHost::step`: what clients took, a step does not look at.
+-- Serves clauses happens and kept of `DurableHost::step`: what clients took, a step does not look
+-- at.
 use Rattle.std.proofs.Common.{◌≡◌, ◌≤◌, refl, sym, ap, subst, ◌∙◌, ℕ, ◌+◌, Bool, true, false, cond, if◌then◌else◌, nat_le, List, [], length, length-append, Option, Some, None, arith}
 use Rattle.std.specs.Option.{option_map}
 use Rattle.std.specs.Ordering.{nat_cmp, eq_by_cmp}

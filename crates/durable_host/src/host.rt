@@ -87,9 +87,9 @@ impl<D: Dir> DurableHost<D> {
     /// syncs the log and lets clients take what they were told.
     ///
     /// A fault stops the host. After `Dir`, which is answered exactly where the directory failed,
-    /// the event is kept where it has changes, since some of them may be in the log. After `Memory`,
-    /// and after `NumbersSpent`, which comes where 2^64 - 1 events happened, nothing is kept of it.
-    /// Every later step answers `Stopped` with the first cause, and changes nothing.
+    /// the event is kept where it has changes, since some of them may be in the log. After
+    /// `Memory`, and after `NumbersSpent`, which comes where 2^64 - 1 events happened, nothing is
+    /// kept of it. Every later step answers `Stopped` with the first cause, and changes nothing.
     pub fn step(&mut self, event: Event) -> Result<Answer, HostFault>
         requires takable { IsTakable event }
         ensures happens { IfOk result (λ answer.

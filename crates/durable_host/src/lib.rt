@@ -11,8 +11,8 @@
 //! It stands on `host_core` for what an event means, on `restart` for opening and for what a
 //! directory stands for, on `effect_log` for the units, and on `disk_model` for what a crash
 //! leaves. A step costs its event, one append where keys changed and one sync where it is a Flush;
-//! an event is moved into the history. Opening moves the keys into the core and makes one picture of
-//! them.
+//! an event is moved into the history. Opening moves the keys into the core and makes one picture
+//! of them.
 #![tactic(auto)]
 
 mod computing;

@@ -13,8 +13,8 @@ use Rattle.effect_log.specs.Front.{IsUnitFront}
 use Rattle.effect_log.specs.declared.reason.Reason.{Reason}
 use Rattle.effect_log.specs.declared.reason.Reason.TheVariants as reason
 
--- A request opens the unit, and these effects follow, up to a place. They begin at these places of the log,
--- where the unit stands at an offset.
+-- A request opens the unit, and these effects follow, up to a place. They begin at these places of
+-- the log, where the unit stands at an offset.
 pub record IsSoFar (bytes : List ℕ) (offset : ℕ) (effects : List Effect) (starts : List ℕ) (place : ℕ) : Type 0 where
   pub opening : List ℕ
   pub opens : IsRequestNamed multi opening

@@ -1,4 +1,5 @@
--- Serves the clause `cut` of `log_goes_on`: a torn unit of which less is there is a torn one, or none.
+-- Serves the clause `cut` of `log_goes_on`: a torn unit of which less is there is a torn one, or
+-- none.
 use Rattle.std.proofs.Common.{◌≡◌, ◌⊎◌, ℕ, ◌+◌, ◌-◌, ◌<◌, ◌≤◌, true, false, List, [], ◌∷◌, ◌++◌, length, take, drop, refl, sym, ap, subst, ◌∙◌, append_assoc, arith, inl, inr}
 use Rattle.std.specs.List.{AllByRecursion}
 use Rattle.std.proofs.lemmas.List.{length-append, take-append-drop}

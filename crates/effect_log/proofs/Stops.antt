@@ -76,8 +76,8 @@ first_one replay keys a b (d ∷ done) (g ∷ other) more others e f why reason 
     let made : replayed replay first.0 other ≡ Ok b = ap (λ (k : Keys). replayed replay k other) (sym then) ∙ second.2 in
     omega (arith, first_one replay first.0 a b done other more others e f why reason first.2 refused_a made refused_b behind)
 
--- Behind effects of units that make some keys, one of a unit makes nothing of these. It begins at this place
--- of the units' bytes.
+-- Behind effects of units that make some keys, one of a unit makes nothing of these. It begins at
+-- this place of the units' bytes.
 pub record StopsIn (replay : Meaning) (keys : Keys) (all : List Unit) (why : Refusal) (at : ℕ) : Type 0 where
   pub units : List Unit
   pub next : Unit

@@ -1,4 +1,5 @@
--- How long the lists are that the commands make. Serves clauses more and few of sets, and count of take_out.
+-- How long the lists are that the commands make. Serves clauses more and few of sets, and count of
+-- take_out.
 use Rattle.std.proofs.Common.{◌+◌, ◌≤◌, ℕ, suc, Bool, true, false, List, [], ◌∷◌, length, if◌then◌else◌, arith}
 use Rattle.std.specs.Str.{bytes_eq}
 use Rattle.core_types.specs.declared.field.Field.{Field}

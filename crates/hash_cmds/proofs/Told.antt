@@ -1,4 +1,5 @@
--- Serves the clause of effects_remake_changes, and clauses hash and other of refusals_change_nothing.
+-- Serves the clause of effects_remake_changes, and clauses hash and other of
+-- refusals_change_nothing.
 use Rattle.std.proofs.Common.{◌≡◌, inl, inr, ◌%◌, if◌then◌else◌, ℕ, ℤ, pos, Bool, true, false, List, [], ◌∷◌, length, drop, codes, Option, Some, None, is_some, refl, sym, ap, ◌∙◌, arith}
 use Rattle.std.specs.Prelude.{◌+ℤ◌, ◌==◌}
 use Rattle.std.proofs.lemmas.Bool.Decides.{nat_tests}

@@ -76,7 +76,7 @@ impl HashCmd {
         }
     }
 
-    /// Whether a request of this command may have so many words.
+    /// Whether a request of this command may have this many words.
     pub fn takes(self, count: usize) -> bool
         ensures takes { result ≡ takes (command_row self).arity count }
     {

@@ -1,4 +1,5 @@
--- Serves clause none of `ticks_leave_none_due`: the key that is due first is there, so each removal leaves one key less.
+-- Serves clause none of `ticks_leave_none_due`: the key that is due first is there, so each removal
+-- leaves one key less.
 use Rattle.std.proofs.Common.{◌≡◌, ◌≤◌, ◌-◌, ◌||◌, ℕ, zero, suc, Bool, true, false, List, [], ◌∷◌, map, Option, Some, None, IsSome, is_some, if◌then◌else◌, nat_lt, nat_le, refl, sym, ap, ◌∙◌, arith}
 use Rattle.std.specs.Cmp.Lexicographic.{slice_cmp, nat_list_cmp_total}
 use Rattle.std.specs.FinMap as finite

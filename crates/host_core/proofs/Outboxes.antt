@@ -1,4 +1,5 @@
--- Serves clause apart of `steps_look_at_no_outbox`: what a client took of its replies, a step does not look at.
+-- Serves clause apart of `steps_look_at_no_outbox`: what a client took of its replies, a step does
+-- not look at.
 use Rattle.std.proofs.Common.{◌≡◌, ◌<◌, ◌≤◌, ◌+◌, refl, sym, ap, subst, ◌∙◌, ℕ, Bool, true, false, cond, if◌then◌else◌, nat_le, List, length, Option, Some, None, arith}
 use Rattle.std.specs.Option.{option_map}
 use Rattle.std.specs.Ordering.{nat_cmp, eq_by_cmp}

@@ -1,4 +1,5 @@
--- Serves clause keys of `effects_make_the_keys`: the changes that a step tells make its keys of those before.
+-- Serves clause keys of `effects_make_the_keys`: the changes that a step tells make its keys of
+-- those before.
 use Rattle.std.proofs.Common.{◌≡◌, refl, sym, ap, ◌∙◌, inl, inr, ℕ, zero, suc, true, if◌then◌else◌, List, [], Option, Some, None, Ok, Err}
 use Rattle.std.specs.Option.{option_map}
 use Rattle.core_types.specs.CommandRow.{MeetArity}

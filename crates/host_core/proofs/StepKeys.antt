@@ -1,4 +1,5 @@
--- Serves the clauses of `limits_are_kept` and `effects_make_the_keys`: what a step makes of the keys, event by event.
+-- Serves the clauses of `limits_are_kept` and `effects_make_the_keys`: what a step makes of the
+-- keys, event by event.
 use Rattle.std.proofs.Common.{◌≡◌, refl, max, ℕ, Bool, true, false, if◌then◌else◌, nat_le, List, [], length, Option, Some, None}
 use Rattle.core_types.specs.CommandRow.{MeetArity, takes}
 use Rattle.core_types.specs.Done.{word}

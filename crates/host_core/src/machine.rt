@@ -122,8 +122,8 @@ impl Core {
 
     /// Makes a change of a log again, at moment 0. It is refused as no effect where its command is
     /// unknown or may not stand in a log, and else as an effect without an answer where the command
-    /// is answered by an error; the keys then stay. It stops for want of memory alone, and a part of
-    /// the change may then be done. Clients and moment stay, whatever comes.
+    /// is answered by an error; the keys then stay. It stops for want of memory alone, and a part
+    /// of the change may then be done. Clients and moment stay, whatever comes.
     pub fn replay(&mut self, effect: &Effect) -> Result<(), ReplayStop>
         requires replayable { IsReplayable effect.now }
         ensures ok { OnOk result (replay self.old.keys effect.now ≡ Ok self.new.keys) }

@@ -42,7 +42,7 @@ pub(crate) fn serve(
     serve_by(alloc, hashing, cmd, keys, moment, words)
 }
 
-// Serves words, of which this command takes so many.
+// Serves words, of which this command takes this many.
 pub(crate) fn serve_by(
     alloc: Global,
     hashing: RandomState,

@@ -1,4 +1,5 @@
--- How what a command does to one value is carried to the keys. Serves the clauses of the commands on one key.
+-- How what a command does to one value is carried to the keys. Serves the clauses of the commands
+-- on one key.
 use Rattle.std.proofs.Common.{◌≡◌, ℕ, List, [], ◌++◌, Result, Ok, Err, IfOk, OnOk, OnErr, Option, Some, None, unwrap_or, ◌≤◌, vec_len, vec_capacity, refl, sym, ap, subst, ◌∙◌, arith}
 use Rattle.std.specs.declared.alloc.Global.{Global}
 use Rattle.std.specs.declared.vec.Vec.{Vec}
@@ -234,7 +235,8 @@ ok_map : {T E : Type 0} (r : Result T E) (P Q : T → Type 0) → ((x : T) → P
 ok_map (Ok x) P Q f p = f x p
 ok_map (Err e) P Q f p = p
 
--- What the call that carries an outcome out says of its key is what the command says of it, clause by clause.
+-- What the call that carries an outcome out says of its key is what the command says of it, clause
+-- by clause.
 module _ {N B : Type 0} (of : B → Plain) (r : Result Ran NoMemory) (key at : List ℕ) (same : key ≡ at) (o : Outcome Plain)
     (old mid new : KeysOf N) (done : Done B) (does : DoesToKeys at o old mid (done_of of done)) where
   pub done_keys : OnOk r (new ≡ settled o.body key mid) → OnOk r (new ≡ (on_key (λ b. value_of (of b)) at old done).keys)
@@ -255,7 +257,8 @@ module _ {N B : Type 0} (of : B → Plain) (r : Result Ran NoMemory) (key at : L
   done_err before between after kept h k =
       on_err r (λ (puts : Puts o.body) (e : (new ≡ mid) × (after ≡ between)). (e.0 ∙ puts_same at o old mid (done_of of done) does puts, e.1 ∙ kept)) h k
 
--- Where the key is there, its value is lent to the command, and what becomes of the value becomes of the key.
+-- Where the key is there, its value is lent to the command, and what becomes of the value becomes
+-- of the key.
 module _ {N : Type 0} (key at : List ℕ) (same : key ≡ at) (keys end : KeysOf N) where
   pub lent_does : (r : Result (Outcome Plain) NoMemory) (held left : Value N) (done : Option (Value N) → Done Plain) → value_at keys key ≡ Some held → end ≡ with_changed keys key left
       → IfOk r (λ o. DoesToValue o held left (done (Some held))) → IfOk r (λ o. DoesToKeys at o keys end (done (value_at keys at)))

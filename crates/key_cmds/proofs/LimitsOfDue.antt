@@ -1,4 +1,5 @@
--- The key that is due first is there, so its removal keeps the limits. Serves clause expiry of limits_are_kept.
+-- The key that is due first is there, so its removal keeps the limits. Serves clause expiry of
+-- limits_are_kept.
 use Rattle.std.proofs.Common.{◌≡◌, ℕ, Bool, true, false, ◌||◌, List, [], ◌∷◌, map, Option, Some, None, is_some, if◌then◌else◌, nat_le, nat_lt, refl, sym, ap, ◌∙◌, true≢false}
 use Rattle.std.specs.Cmp.Lexicographic.{slice_cmp, nat_list_cmp_total}
 use Rattle.std.specs.FinMap as finite
@@ -22,7 +23,8 @@ or_true : (a b : Bool) → b ≡ true → (a || b) ≡ true
 or_true true b is = refl
 or_true false b is = is
 
--- what holds of an entry's key holds of that of its due, and what holds of all of them holds of the soonest
+-- what holds of an entry's key holds of that of its due, and what holds of all of them holds of the
+-- soonest
 module _ (P : List ℕ → Type 0) where
   due_has : (now : ℕ) (key : List ℕ) (deadline : Option ℕ) → P key → IfSome (due_at now key deadline) (λ due. P due.key)
   due_has now key None h = tt

@@ -1,5 +1,5 @@
--- What the keys may be, they stay under a command, and its effects may be requests. Serves clause commands of
--- limits_are_kept.
+-- What the keys may be, they stay under a command, and its effects may be requests. Serves clause
+-- commands of limits_are_kept.
 use Rattle.std.proofs.Common.{◌≡◌, ◌<◌, ◌≤◌, ◌^◌, ℕ, zero, suc, ℤ, pos, negsuc, Bool, true, false, List, [], ◌∷◌, length, drop, codes, Option, Some, None, if◌then◌else◌, refl, sym, subst, true≢false, arith, FitsSigned}
 use Rattle.std.specs.Prelude.{◌+ℤ◌, ◌*ℤ◌, ◌==◌, ⊤}
 use Rattle.std.specs.Fmt.{decimal}

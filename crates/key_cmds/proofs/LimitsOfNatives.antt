@@ -1,5 +1,5 @@
--- The values of modules that the keys had are those that they have after a command, and those that left. Serves
--- the clauses of natives_are_kept.
+-- The values of modules that the keys had are those that they have after a command, and those that
+-- left. Serves the clauses of natives_are_kept.
 use Rattle.std.proofs.Common.{◌≡◌, ℕ, ℤ, pos, Bool, true, false, cond, List, [], ◌∷◌, ◌++◌, drop, flat_map, codes, Option, Some, None, is_some, if◌then◌else◌, refl, sym, ap, subst, ◌∙◌, append_assoc, true≢false}
 use Rattle.std.specs.Prelude.{◌+ℤ◌, ◌*ℤ◌, ⊤, IfSome}
 use Rattle.std.specs.declared.cmp.Ordering.{Ordering}

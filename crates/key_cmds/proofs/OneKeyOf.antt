@@ -1,5 +1,5 @@
--- What the words over the keys make of one key. Serves the clauses of the commands on one key and of those on
--- several.
+-- What the words over the keys make of one key. Serves the clauses of the commands on one key and
+-- of those on several.
 use Rattle.std.proofs.Common.{◌≡◌, ℕ, Bool, true, false, List, Option, Some, None, unwrap_or, if◌then◌else◌, refl, sym, ap, ◌∙◌}
 use Rattle.std.proofs.lemmas.Option.{none-some}
 use Rattle.std.specs.Option.{option_and_then, option_map}

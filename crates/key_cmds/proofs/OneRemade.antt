@@ -1,5 +1,5 @@
--- How what holds of a command on one key holds of the keys. Serves the clauses of effects_remake_changes and of
--- refusals_change_nothing.
+-- How what holds of a command on one key holds of the keys. Serves the clauses of
+-- effects_remake_changes and of refusals_change_nothing.
 use Rattle.std.proofs.Common.{◌≡◌, ◌≢◌, ◌⊎◌, inl, inr, ℕ, Bool, true, false, List, [], ◌∷◌, Option, Some, None, refl, sym, ap, ◌∙◌}
 use Rattle.core_types.specs.CommandRow.{MeetArity}
 use Rattle.core_types.specs.Done.{Change, Done, unless_refused, word}

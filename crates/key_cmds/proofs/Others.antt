@@ -1,5 +1,5 @@
--- What commands do to a key that holds another kind of value than they are for. Serves the clauses of the commands
--- on one key.
+-- What commands do to a key that holds another kind of value than they are for. Serves the clauses
+-- of the commands on one key.
 use Rattle.std.proofs.Common.{◌≡◌, ℕ, Bool, true, false, List, drop, codes, Option, Some, None, if◌then◌else◌, refl}
 use Rattle.core_types.specs.Done.{Done, answers, refuses, unless_refused}
 use Rattle.core_types.specs.declared.field.Field.{Field}

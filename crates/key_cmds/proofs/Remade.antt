@@ -1,5 +1,5 @@
--- What a command does to the keys, one effect makes again. Serves the clauses of effects_remake_changes and of
--- refusals_change_nothing.
+-- What a command does to the keys, one effect makes again. Serves the clauses of
+-- effects_remake_changes and of refusals_change_nothing.
 use Rattle.std.proofs.Common.{◌≡◌, ◌≢◌, ℕ, false, List, ap}
 use Rattle.core_types.specs.CommandRow.{MeetArity}
 use Rattle.core_types.specs.Keys.{KeysOf}

@@ -133,8 +133,8 @@ module _ {N : Type 0} where
   pub removed_there : (names : List (List ℕ)) (keys : KeysOf N) → removed (filter (is_there keys) names) keys ≡ removed names keys
   removed_there names keys = passing names keys (is_there keys) (λ name there. there)
 
--- while notes are gone through: those that are left, the keys, the notes of keys that went, and the values of
--- modules that left
+-- while notes are gone through: those that are left, the keys, the notes of keys that went, and the
+-- values of modules that left
 pub record Way (N : Type 0) : Type 0 where
   pub rest : List Note
   pub keys : KeysOf N

@@ -1,5 +1,5 @@
--- What commands on keys of any kind make once, and what makes it again. Serves the clauses of effects_remake_changes
--- and of refusals_change_nothing.
+-- What commands on keys of any kind make once, and what makes it again. Serves the clauses of
+-- effects_remake_changes and of refusals_change_nothing.
 use Rattle.std.proofs.Common.{◌≡◌, ◌≢◌, inl, inr, nat_le, ℕ, ℤ, pos, negsuc, Bool, true, false, List, [], ◌∷◌, length, map, codes, Option, Some, None, if◌then◌else◌, refl, sym, ap, ◌∙◌, arith, FitsSigned}
 use Rattle.std.specs.Prelude.{◌==◌, ◌+ℤ◌, ◌*ℤ◌}
 use Rattle.std.specs.Int.{w64}

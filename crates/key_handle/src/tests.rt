@@ -39,8 +39,8 @@ fn fault_or_none(fault: Option<HandleFault>) -> u64 {
     }
 }
 
-// What a key that is opened so answers: its kind, why it shows and lends no value, why it takes none,
-// and why it is not deleted.
+// What a key that is opened so answers: its kind, why it shows and lends no value, why it takes
+// none, and why it is not deleted.
 fn ask(alloc: Global, ctx: &mut Text, key: &[u8], mode: Mode) -> [u64; 5]
     requires { IsString key.now }
 {
@@ -63,7 +63,8 @@ fn ask(alloc: Global, ctx: &mut Text, key: &[u8], mode: Mode) -> [u64; 5]
     [kind, shows, lends, takes, goes]
 }
 
-// A key with a string: opened for reading it is refused as that, and opened for writing for its kind.
+// A key with a string: opened for reading it is refused as that, and opened for writing for its
+// kind.
 #[test]
 fn a_string_is_not_lent(rt: HostRuntime) -> Result<(), Fail> {
     let alloc = rt.alloc();

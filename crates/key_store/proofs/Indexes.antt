@@ -1,4 +1,5 @@
--- What the steps of one call make of the index of the deadlines. Serves the invariant of `KeyStore`.
+-- What the steps of one call make of the index of the deadlines. Serves the invariant of
+-- `KeyStore`.
 use Rattle.std.proofs.Common.{◌≡◌, ◌≢◌, refl, sym, ap, subst, ◌∙◌, ℕ, ◌==◌, Bool, true, false, cond, not, ◌&&◌, ◌||◌, List, Option, Some, None, IsSome, eqb-true}
 use Rattle.std.specs.declared.cmp.Ordering.{Ordering}
 use Rattle.std.specs.declared.cmp.Ordering.TheVariants.{Less, Equal, Greater}
@@ -72,7 +73,8 @@ unless-at (Some a) (Some b) m =
     other true false both = refl
     other false y both = refl
 
--- with the part of a new deadline that is not the old one put in, and the part of the old that is not the new taken out
+-- with the part of a new deadline that is not the old one put in, and the part of the old that is
+-- not the new taken out
 swapped : (a b : Bool) → (not ((b && not a) && true) && (((a && not b) && true) || b)) ≡ a
 swapped true true = refl
 swapped true false = refl

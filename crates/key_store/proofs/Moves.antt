@@ -1,5 +1,5 @@
--- What the steps of one call make of the keys. Serves the clauses of `Table::rename` and of the calls of `KeyStore`
--- that change a key in its place.
+-- What the steps of one call make of the keys. Serves the clauses of `Table::rename` and of the
+-- calls of `KeyStore` that change a key in its place.
 use Rattle.std.proofs.Common.{⊎_elim, ◌≡◌, ◌≢◌, refl, sym, ap, subst, ◌∙◌, ℕ, Bool, true, false, cond, List, Option, Some, None, IsSome, is_some, MutBor}
 use Rattle.std.specs.Ordering.{nat_cmp, eq_by_cmp}
 use Rattle.std.specs.Cmp.Lexicographic.{slice_cmp, nat_list_cmp_total}

@@ -1,4 +1,5 @@
--- The entries of a tree, their keys read, as the finite map that they make. Serves the clauses of `Table`.
+-- The entries of a tree, their keys read, as the finite map that they make. Serves the clauses of
+-- `Table`.
 use Rattle.std.proofs.Common.{◌+◌, Bool, false, is_some, suc, arith, ⊎_elim, ◌≡◌, refl, sym, ap, ◌∙◌, true, cond, List, [], ◌∷◌, map, length, Option, Some, None, IfSome, IsSome, ◌↔◌, ◌<◌, subst, slice_get, MutBor}
 use Rattle.std.specs.declared.cmp.Ordering.{Ordering}
 use Rattle.std.specs.declared.cmp.Ordering.TheVariants.{Less, Equal, Greater}

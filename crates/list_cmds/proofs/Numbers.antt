@@ -1,4 +1,5 @@
--- Serves the clause of range, and clause does of trim and remove: a number of the words has 64 bits.
+-- Serves the clause of range, and clause does of trim and remove: a number of the words has 64
+-- bits.
 use Rattle.std.proofs.Common.{◌≡◌, ℕ, ℤ, pos, List, Option, Some, None, FitsSigned, refl, ap, ◌∙◌, to_z, of_z, arith}
 use Rattle.std.specs.Prelude.{unwrap_or}
 use Rattle.std.specs.Int.{w64}

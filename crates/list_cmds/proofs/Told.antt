@@ -1,4 +1,5 @@
--- Serves the clause of effects_remake_changes, and clauses list and other of refusals_change_nothing.
+-- Serves the clause of effects_remake_changes, and clauses list and other of
+-- refusals_change_nothing.
 use Rattle.std.proofs.Common.{◌≡◌, inl, inr, ◌-◌, if◌then◌else◌, ℕ, Bool, true, false, List, [], ◌∷◌, length, codes, Option, Some, None, refl, sym, ap, ◌∙◌}
 use Rattle.std.specs.Prelude.{◌==◌}
 use Rattle.core_types.specs.CommandRow.{MeetArity}

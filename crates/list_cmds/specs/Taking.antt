@@ -45,8 +45,8 @@ trim (Some items) words =
     leaves (taken_range items (number 2 words) (number 3 words)) (reply.Simple (codes "OK"))
     (codes "LTRIM") (codes "ltrim") words
 
--- a list without items that are equal to this one: for a number above 0 the first so many, for one
--- below 0 the last, and for 0 all
+-- a list without items that are equal to this one: for a number above 0 the first of them, as many
+-- as it says, for one below 0 the last, and for 0 all
 abbrev pub without : ℤ → List ℕ → List (List ℕ) → List (List ℕ)
 without (pos zero) item items = without_first (length items) item items
 without (pos (suc n)) item items = without_first (suc n) item items

@@ -27,12 +27,12 @@ abbrev pub or_else : Option Refusal → Option Refusal → Option Refusal
 or_else None second = second
 or_else (Some first) second = Some first
 
--- which of so many items a number names: one below 0 counts from the end
+-- which of this many items a number names: one below 0 counts from the end
 abbrev pub place_of : ℕ → ℤ → Option ℕ
 place_of size (pos n) = if nat_lt n size then Some n else None
 place_of size (negsuc n) = if nat_lt n size then Some (size - (n + 1)) else None
 
--- so many items, as a number of 64 bits: a count stands still at the largest
+-- this many items, as a number of 64 bits: a count stands still at the largest
 abbrev pub counted : ℕ → Reply
 counted count = reply.Int (pos (min count 9223372036854775807))
 

@@ -64,7 +64,7 @@ impl ListCmd {
         }
     }
 
-    /// Whether a request of this command may have so many words.
+    /// Whether a request of this command may have this many words.
     pub fn takes(self, count: usize) -> bool
         ensures takes { result ≡ takes (command_row self).arity count }
     {

@@ -16,7 +16,7 @@ pub(crate) fn number(words: &Args, place: usize) -> i64
     read_i64(words.word(place)).unwrap_or(0)
 }
 
-/// Which of so many items a number names, if it names one. A number below 0 counts from the end.
+/// Which of this many items a number names, if it names one. A number below 0 counts from the end.
 pub(crate) fn place_of(size: usize, index: i64) -> Option<usize>
     ensures { result ≡ place_of size index }
 {

@@ -48,8 +48,8 @@ abbrev pub counted_then : Result Counted LoadFault
 counted_then (Ok c) behind = word_before c (behind c)
 counted_then (Err why) behind = Err why
 
--- The words that are left to read, so many, from a place on, behind a last one. The fault is the
--- place of the first part that does not fit, that is one too many, or where one is missing.
+-- The words that are left to read, `left` of them, from a place on, behind a last one. The fault is
+-- the place of the first part that does not fit, that is one too many, or where one is missing.
 abbrev pub counts_after : Option Bytes → ℕ → ℕ → Saved → Result (List Counted) LoadFault
 counts_after last zero place [] = Ok []
 counts_after last zero place (part ∷ parts) = Err (load_fault.Shape place)

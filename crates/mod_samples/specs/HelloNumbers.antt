@@ -51,8 +51,8 @@ abbrev pub read_on : ℕ → Option ℤ → (ℤ → Result (List ℤ) LoadFault
 read_on place None behind = Err (load_fault.Shape place)
 read_on place (Some n) behind = before_read n (behind n)
 
--- The numbers that are left to read, so many, from a place on, behind a last one. The fault is the
--- place of the first part that does not fit, that is one too many, or where one is missing.
+-- The numbers that are left to read, `left` of them, from a place on, behind a last one. The fault
+-- is the place of the first part that does not fit, that is one too many, or where one is missing.
 abbrev pub numbers_after : ℕ → Option ℤ → ℕ → ℕ → Saved → Result (List ℤ) LoadFault
 numbers_after version last zero place [] = Ok []
 numbers_after version last zero place (part ∷ parts) = Err (load_fault.Shape place)

@@ -90,7 +90,7 @@ abbrev pub natural : Option ℤ → Option ℕ
 natural (Some (pos n)) = Some n
 natural _ = None
 
--- RANGE key first count: at most so many numbers, from that place on
+-- RANGE key first count: at most this many numbers, from that place on
 abbrev pub ranges : Seen → Option ℕ → Option ℕ → Option (List ℤ) → Did Verdict
 ranges seen (Some first) (Some count) (Some ns) =
     replies seen (number_array (take count (drop first ns)))

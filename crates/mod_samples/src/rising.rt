@@ -75,7 +75,7 @@ impl Rising {
         &self.numbers
     }
 
-    // At most so many numbers, from a place on.
+    // At most this many numbers, from a place on.
     pub(crate) fn range(&self, first: u64, count: u64) -> &[i64]
         ensures { result.now ≡ take count (drop first self.now) }
     {

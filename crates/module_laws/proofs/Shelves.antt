@@ -1,5 +1,5 @@
--- The keys of a context that keeps what was put into it in a list. Serves the clauses of the calls of
--- Context for Shelf.
+-- The keys of a context that keeps what was put into it in a list. Serves the clauses of the calls
+-- of Context for Shelf.
 use Rattle.std.proofs.Common.{◌≡◌, ℕ, ◌<◌, ◌≤◌, arith, Bool, true, false, List, [], ◌∷◌, ◌++◌, length, get_or, set, map, Option, Some, None, refl, sym, ap, ◌∙◌, if◌then◌else◌}
 use Rattle.std.specs.Prelude.{cond, find, position, nat_lt, reverse, slice_get}
 use Rattle.std.specs.List.{position_or_len}

@@ -26,7 +26,7 @@ HasPlace modules place = place < held modules.size
 abbrev pub only : Meaning → Modules
 only meaning = record { size = 1; meaning_at = λ place. meaning }
 
--- what the first, so many, have at a place, and behind them the others
+-- what the first have at a place, as many as are told, and behind them the others
 abbrev pub by_half : {X : Type 0} → ℕ → (ℕ → X) → (ℕ → X) → ℕ → X
 by_half first f g place = if nat_lt place first then f place else g (place - first)
 

@@ -13,7 +13,7 @@ module _ {L R : Type 0} where
   native_of left right (either.Left value) = left value
   native_of left right (either.Right value) = right value
 
-  -- the place of a value's module, where so many modules are of the first half
+  -- the place of a value's module, where this many modules are of the first half
   abbrev pub place_of_half : ℕ → (L → ℕ) → (R → ℕ) → Either L R → ℕ
   place_of_half first left right (either.Left value) = left value
   place_of_half first left right (either.Right value) = first + right value

@@ -124,7 +124,8 @@ unfinished_word before input len begun small open_end =
     IsUnfinished-from_short (before ++ header 36 len ++ input) (ap judge (append_assoc before (header 36 len) input)
     ∙ judge-open before (header 36 len ++ input) begun (piece-length len input small ∙ open_piece input len (length (header 36 len) + len) open_end))
 
--- a word's bytes are there, and at this place of what follows its header stands no CR, or no LF behind one
+-- a word's bytes are there, and at this place of what follows its header stands no CR, or no LF
+-- behind one
 word_end : (input : List ℕ) (len place : ℕ) → len ≤ 536870912 → IsFound input len (found.Missing place) → BadWordEnd (header 36 len ++ input) (length (header 36 len) + place)
 word_end input len place small (inl (same, less, other)) =
     let word = take len input in

@@ -1,4 +1,5 @@
--- Serves the clauses `crash`: what a crash leaves while a log is opened restarts as it might have at the entry.
+-- Serves the clauses `crash`: what a crash leaves while a log is opened restarts as it might have
+-- at the entry.
 use Rattle.std.proofs.Common.{◌≡◌, ℕ, ◌≤◌, List, [], take, Option, Some, None, IfSome, refl, sym, ap, subst, ◌∙◌, inl, inr}
 use Rattle.std.specs.Option.{option_map}
 use Rattle.core_types.specs.Keys.{Keys, no_keys}

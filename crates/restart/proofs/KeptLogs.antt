@@ -1,4 +1,5 @@
--- Serves the clauses of `make_safe` and of the parts of it: what is synced, and how the files are left.
+-- Serves the clauses of `make_safe` and of the parts of it: what is synced, and how the files are
+-- left.
 use Rattle.std.specs.Prelude.{⊤}
 use Rattle.std.proofs.Common.{◌≡◌, ◌⊎◌, ℕ, List, [], take, Option, Some, None, IfSome, OnOk, OnErr, Result, Ok, Err, refl, ap, ◌∙◌, inl, inr}
 use Rattle.std.specs.Option.{option_map}

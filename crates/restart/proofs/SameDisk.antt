@@ -1,4 +1,5 @@
--- Serves the clauses `same` of `find` and `look`, and `stop` of `open_log`: reads leave the same disk.
+-- Serves the clauses `same` of `find` and `look`, and `stop` of `open_log`: reads leave the same
+-- disk.
 use Rattle.std.proofs.Common.{◌≡◌, List, [], ◌∷◌, ◌++◌, Option, Some, None, refl, sym, ap, ◌∙◌, append-nil}
 use Rattle.std.specs.List.{AllByRecursion}
 use Rattle.std.specs.Option.{option_map}

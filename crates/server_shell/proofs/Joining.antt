@@ -1,4 +1,5 @@
--- Serves clauses made and broken of `serve_event`, and the clauses of `serve_request`: events one after the other.
+-- Serves clauses made and broken of `serve_event`, and the clauses of `serve_request`: events one
+-- after the other.
 use Rattle.std.proofs.Common.{◌≡◌, refl, sym, ap, subst, ◌∙◌, ℕ, List, [], ◌++◌, append-nil, ◌+◌, length, length-append, take, take_all, Option, Some, None, arith, inl, inr}
 use Rattle.std.specs.Option.{option_map}
 use Rattle.std.proofs.lemmas.List.{append_assoc}

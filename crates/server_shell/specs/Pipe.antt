@@ -146,8 +146,8 @@ pub record IsInLast (requests : List (List (List ℕ))) (moments : List ℕ)
   pub done_are : done ≡ served_events front times
   pub within_are : within ≡ request_events moment words
 
--- how far serving came: all requests are served, and it stopped behind them or at a bad place there,
--- or it stopped in the last one
+-- how far serving came: all requests are served, and it stopped behind them or at a bad place
+-- there, or it stopped in the last one
 abbrev pub IsStage : List (List (List ℕ)) → List ℕ → End → (done within : List Event) → Type 0
 IsStage requests moments end done within =
     ((done ≡ served_events requests moments) × ((within ≡ []) ⊎ (within ≡ end_events end)))

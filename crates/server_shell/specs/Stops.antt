@@ -1,4 +1,5 @@
--- Which end of a run a log that was not opened leads to. The keys count nothing that could be spent, so memory alone stops a replay.
+-- Which end of a run a log that was not opened leads to. The keys count nothing that could be
+-- spent, so memory alone stops a replay.
 use Rattle.restart.specs.declared.opening.OpenStop.{OpenStop}
 use Rattle.restart.specs.declared.opening.OpenStop.TheVariants as stop
 use Rattle.server_shell.specs.declared.status.Status.{Status}

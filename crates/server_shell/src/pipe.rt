@@ -26,10 +26,10 @@ pub const MAX_INPUT: u64 = 1 << 40;
 /// Serves a source as client 1: it comes, its requests are served up to and with a QUIT, what they
 /// are told is sent once it is flushed, and it goes where its stream came to its end.
 ///
-/// `Done` is the end of the input, or QUIT. Any other status says what ended the run: a fault of the
-/// directory, the source or the sink, want of memory, a spent counter, more than 2^40 bytes, a bad
-/// request (whose error is sent), or an end within a request. What stops the host while the client
-/// goes comes before the end of its stream.
+/// `Done` is the end of the input, or QUIT. Any other status says what ended the run: a fault of
+/// the directory, the source or the sink, want of memory, a spent counter, more than 2^40 bytes, a
+/// bad request (whose error is sent), or an end within a request. What stops the host while the
+/// client goes comes before the end of its stream.
 pub fn serve_pipe<D: Dir, S: Source, K: Sink, C: Clock>(
     alloc: Global,
     host: &mut DurableHost<D>,

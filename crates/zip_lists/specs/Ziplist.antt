@@ -36,7 +36,7 @@ place_behind entries = header_size + length (entries_bytes entries)
 abbrev pub last_start : List Entry → ℕ
 last_start entries = place_behind (take (length entries - 1) entries)
 
--- how many bytes the last of these entries has, or so many where there is none
+-- how many bytes the last of these entries has, or this many where there is none
 abbrev pub last_size : ℕ → List Entry → ℕ
 last_size before [] = before
 last_size before (entry ∷ more) = last_size (length (entry_bytes entry)) more

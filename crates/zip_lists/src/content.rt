@@ -69,7 +69,7 @@ fn read_long(alloc: Global, bytes: &[u8]) -> Result<Item, NoMemory>
     }
 }
 
-// A string of this size behind so many bytes that announce it.
+// A string of this size behind this many bytes that announce it.
 fn take_text(alloc: Global, bytes: &[u8], start: usize, size: usize) -> Result<Item, NoMemory>
     requires within { start ≤ length bytes.now }
     requires announced { Announces (take start bytes.now) size }

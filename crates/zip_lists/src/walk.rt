@@ -78,7 +78,7 @@ impl Walk {
         }
     }
 
-    // Reads an entry behind the length that it tells, which takes so many bytes.
+    // Reads an entry behind the length that it tells, which takes this many bytes.
     fn read_entry(
         &mut self,
         alloc: Global,
@@ -115,7 +115,7 @@ impl Walk {
         self.wrong
     }
 
-    // Keeps an entry of so many bytes.
+    // Keeps an entry of this many bytes.
     fn push(&mut self, item: Blob, size: usize, wrong: Option<usize>) -> Result<(), NoMemory>
         requires { self.old.place + size < 2 ^ 64 }
         ensures { OnOk result (self.new ≡ pushed self.old item size wrong) }
@@ -155,7 +155,7 @@ impl Walk {
     }
 }
 
-// Whether a number that is told says that there are so many entries.
+// Whether a number that is told says that there are this many entries.
 fn is_count(told: usize, entries: usize) -> bool
     ensures { IsTrue result ↔ IsCount told entries }
 {

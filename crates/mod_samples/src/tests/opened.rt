@@ -48,8 +48,8 @@ fn change<C: Context<HelloList>>(
     }
 }
 
-// Puts a list in, changes it and removes it: its length before and after the change, and 1 where the
-// key was there.
+// Puts a list in, changes it and removes it: its length before and after the change, and 1 where
+// the key was there.
 fn live<C: Context<HelloList>>(
     alloc: Global,
     handle: &mut Handle<C, HelloList>,

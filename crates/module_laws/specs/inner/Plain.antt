@@ -9,6 +9,6 @@ abbrev pub answers_only : {A : Type 0} → A → Seen → Did A
 answers_only answer seen =
     record { answer = answer; private = []; keys = seen.keys; effects = []; notes = [] }
 
--- what the state is, after so many values
+-- what the state is, after this many values
 abbrev pub plain_state : ℕ → ℕ → State
 plain_state made freed = record { private = []; made = made; freed = freed }

@@ -10,7 +10,7 @@ use Rattle.zip_lists.specs.declared.previous.Length.TheVariants as found
 use Rattle.zip_lists.specs.declared.content.Item.{Item}
 use Rattle.zip_lists.specs.declared.content.Item.TheVariants as item
 
--- a length is told at the front, and takes so many bytes
+-- a length is told at the front, and takes this many bytes
 pub record TellsFirst (bytes : List ℕ) (length_told size : ℕ) : Type 0 where
   pub previous : Previous
   pub is_previous : IsPrevious previous
@@ -32,7 +32,7 @@ IsLengthFront bytes found.End = bytes ≡ end_mark ∷ drop 1 bytes
 IsLengthFront bytes found.Open = IsBegunLength bytes
 IsLengthFront bytes (found.Whole length_told size) = TellsFirst bytes length_told size
 
--- an item stands at the front, and takes so many bytes
+-- an item stands at the front, and takes this many bytes
 pub record HoldsFirst (bytes item : List ℕ) (size : ℕ) : Type 0 where
   pub content : Content
   pub is_content : IsContent content
@@ -71,7 +71,7 @@ pub record Announces (front : List ℕ) (size : ℕ) : Type 0 where
 abbrev pub IsWidth : ℕ → Type 0
 IsWidth size = (width : Width) × (size ≡ width_size width)
 
--- an integer with this encoding byte has so many bytes behind it
+-- an integer with this encoding byte has this many bytes behind it
 pub record IsWidthOf (mark size : ℕ) : Type 0 where
   pub width : Width
   pub mark_is : mark ≡ width_mark width

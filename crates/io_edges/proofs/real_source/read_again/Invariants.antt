@@ -1,4 +1,5 @@
--- Serves the clauses `bound` and `bytes` of `read_again`: the buffer keeps its length, and a failed read consumes nothing.
+-- Serves the clauses `bound` and `bytes` of `read_again`: the buffer keeps its length, and a failed
+-- read consumes nothing.
 use Rattle.std.proofs.Common.{◌≡◌, length}
 use Rattle.std.specs.Io.KnownBytes.{Keeps}
 use Rattle.io_edges.proofs.real_source.read_again.Given as goal

@@ -1,4 +1,5 @@
--- Serves clauses writes_back and value of KeyStore::get_mut, and the invariant once the loan is over.
+-- Serves clauses writes_back and value of KeyStore::get_mut, and the invariant once the loan is
+-- over.
 use Rattle.std.proofs.Common.{refl, ap, sym, ◌∙◌, Some}
 use Rattle.std.specs.Option.{option_map, option_copied_mut}
 use Rattle.core_types.specs.Keys.{value_at, with_changed}
