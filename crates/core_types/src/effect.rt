@@ -1,6 +1,6 @@
 //! Words: of a command, of a change to be done again, and of a module's answer to a note.
 
-ghost use Rattle.std.specs.Prelude.{◌≡◌, ◌<◌, [], ◌∷◌, length, IfOk};
+ghost use Rattle.std.specs.Prelude.{◌≡◌, ◌<◌, ◌++◌, [], ◌∷◌, length, IfOk, OnOk};
 ghost use Rattle.core_types.specs.Done.{own_words, word};
 
 use crate::{Blob, Duplicate, NoMemory, Sequence};
@@ -37,9 +37,9 @@ impl Effect {
         ensures words { IfOk result (λ effect. effect ≡ own_words name.now words.now) }
     {
         let mut copied = Args::new(alloc);
-        copied.push(Blob::from_slice(alloc, name)?)?;
+        push_copy(alloc, &mut copied, name)?;
         for word in &words.as_slice()[1..] {
-            copied.push(word.copy(alloc)?)?;
+            push_copy(alloc, &mut copied, word.as_slice())?;
         }
         Ok(Effect { words: copied })
     }
@@ -50,11 +50,18 @@ impl Effect {
             (λ effect. effect ≡ record { words = name.now ∷ key.now ∷ value.now ∷ [] }) }
     {
         let mut words = Args::new(alloc);
-        words.push(Blob::from_slice(alloc, name)?)?;
-        words.push(Blob::from_slice(alloc, key)?)?;
-        words.push(Blob::from_slice(alloc, value)?)?;
+        push_copy(alloc, &mut words, name)?;
+        push_copy(alloc, &mut words, key)?;
+        push_copy(alloc, &mut words, value)?;
         Ok(Effect { words })
     }
+}
+
+// Adds a copy of a word at the end.
+fn push_copy(alloc: Global, words: &mut Args, word: &[u8]) -> Result<(), NoMemory>
+    ensures ok { OnOk result (words.new ≡ words.old ++ word.now ∷ []) }
+{
+    words.push(Blob::from_slice(alloc, word)?)
 }
 
 /// The changes of one event, in order.

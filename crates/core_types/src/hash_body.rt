@@ -143,9 +143,20 @@ fn copied(alloc: Global, fields: &Map) -> Result<Map, NoMemory>
     copies.reserve(fields.len())?;
     for place in 0..fields.len() {
         let (name, value) = fields.get_index(place).unwrap();
-        copies.insert(Vec::from_slice(alloc, name)?, value.copy(alloc)?)?;
+        insert_copy(alloc, &mut copies, name, value)?;
     }
     Ok(copies)
+}
+
+// Puts a copy of a field.
+fn insert_copy(alloc: Global, fields: &mut Map, name: &[u8], value: &Blob) -> Result<(), NoMemory>
+    ensures ok { OnOk result
+        (fields_of fields.new.entries
+        ≡ with_field (fields_of fields.old.entries)
+        (record { name = name.now; value = value.now })) }
+{
+    fields.insert(Vec::from_slice(alloc, name)?, value.copy(alloc)?)?;
+    Ok(())
 }
 
 fn put_all(fields: &mut Map, more: Vec<Field>) -> Result<(), NoMemory>
