@@ -63,10 +63,8 @@ impl<B: Drop> Outcome<B> {
         ensures changes { IfOk result (λ o. o
             ≡ record { body = body; reply = reply; effects = effect ∷ []; notes = note ∷ [] }) }
     {
-        let mut effects = Effects::new(alloc);
-        effects.push(effect)?;
-        let mut notes = Notes::new(alloc);
-        notes.push(note)?;
+        let effects = only(alloc, effect)?;
+        let notes = only(alloc, note)?;
         Ok(Outcome {
             body,
             reply,
@@ -74,4 +72,13 @@ impl<B: Drop> Outcome<B> {
             notes,
         })
     }
+}
+
+// A list of one item.
+fn only<T: Drop>(alloc: Global, item: T) -> Result<Sequence<T>, NoMemory>
+    ensures only { IfOk result (λ items. items ≡ item ∷ []) }
+{
+    let mut items = Sequence::new(alloc);
+    items.push(item)?;
+    Ok(items)
 }

@@ -1,6 +1,6 @@
 //! The errors that a command is refused with, after the Redis command reference.
 
-ghost use Rattle.std.specs.Prelude.{◌≡◌, ◌++◌, map, codes, IfOk};
+ghost use Rattle.std.specs.Prelude.{◌≡◌, ◌++◌, map, codes, IfOk, OnOk};
 ghost use Rattle.std.specs.Char.{to_ascii_lowercase};
 ghost use Rattle.core_types.specs.Refusals.{refusal_text, refused, wrong_arity, invalid_expire, unknown_command};
 
@@ -100,11 +100,18 @@ fn around_name(alloc: Global, before: &[u8], name: &[u8]) -> Result<Blob, NoMemo
         (λ text. text ≡ before.now ++ map to_ascii_lowercase name.now ++ codes "' command") }
 {
     let mut text = Blob::from_slice(alloc, before)?;
+    push_lower_case(alloc, &mut text, name)?;
+    text.push_slice(b"' command")?;
+    Ok(text)
+}
+
+// Adds a name in lower case.
+fn push_lower_case(alloc: Global, text: &mut Blob, name: &[u8]) -> Result<(), NoMemory>
+    ensures ok { OnOk result (text.new ≡ text.old ++ map to_ascii_lowercase name.now) }
+{
     let lower: Vec<u8> = name
         .iter()
         .map(|byte| byte.to_ascii_lowercase())
         .collect(alloc)?;
-    text.push_slice(&lower)?;
-    text.push_slice(b"' command")?;
-    Ok(text)
+    text.push_slice(&lower)
 }

@@ -121,12 +121,22 @@ fn add_fields(all: &mut Blob, hash: &HashBody) -> Result<(), NoMemory> {
     Ok(())
 }
 
+fn add_copied(alloc: Global, all: &mut Blob, hash: &HashBody) -> Result<(), NoMemory> {
+    let copy = hash.copy(alloc)?;
+    add_fields(all, &copy)
+}
+
+// The fields of a hash and, behind them, those that are left without one.
+fn add_twice(alloc: Global, all: &mut Blob, hash: &mut HashBody) -> Result<(), NoMemory> {
+    fill_hash(alloc, hash)?;
+    add_copied(alloc, all, hash)?;
+    let _ = hash.remove(b"f");
+    add_fields(all, hash)
+}
+
 fn hashes(alloc: Global, keys: RandomState, all: &mut Blob) -> Result<(), NoMemory> {
     let mut hash = HashBody::new(alloc, keys);
-    fill_hash(alloc, &mut hash)?;
-    add_fields(all, &hash.copy(alloc)?)?;
-    let _ = hash.remove(b"f");
-    add_fields(all, &hash)
+    add_twice(alloc, all, &mut hash)
 }
 
 #[test]
@@ -160,6 +170,11 @@ fn doubled<T: Duplicate + Drop>(alloc: Global, item: T) -> Result<usize, NoMemor
     Ok(items.len())
 }
 
+fn note(alloc: Global) -> Result<Note, NoMemory> {
+    let words = words(alloc, &[b"SET", b"k"])?;
+    on_key(alloc, b"set", &words)
+}
+
 fn order(alloc: Global) -> Result<Order, NoMemory> {
     Ok(Order {
         ticket: 1,
@@ -182,27 +197,36 @@ fn chore(alloc: Global) -> Result<Chore, NoMemory> {
     })
 }
 
-fn doubles(alloc: Global) -> Result<[usize; 9], NoMemory> {
+fn told(alloc: Global) -> Result<[usize; 3], NoMemory> {
     Ok([
         doubled(alloc, Effect::on_key(alloc, b"SET", b"k", b"v")?)?,
-        doubled(
-            alloc,
-            on_key(alloc, b"set", &words(alloc, &[b"SET", b"k"])?)?,
-        )?,
-        doubled(alloc, Tagged::Bytes(blob(alloc, b"x")?))?,
-        doubled(alloc, Tagged::Number(7))?,
-        doubled(alloc, order(alloc)?)?,
+        doubled(alloc, note(alloc)?)?,
+        doubled(alloc, out(alloc)?)?,
+    ])
+}
+
+fn asked(alloc: Global) -> Result<[usize; 4], NoMemory> {
+    Ok([
         doubled(alloc, Event::Arrive(1, words(alloc, &[b"PING"])?))?,
         doubled(alloc, Event::Flush)?,
-        doubled(alloc, out(alloc)?)?,
+        doubled(alloc, order(alloc)?)?,
         doubled(alloc, chore(alloc)?)?,
+    ])
+}
+
+fn saved(alloc: Global) -> Result<[usize; 2], NoMemory> {
+    Ok([
+        doubled(alloc, Tagged::Bytes(blob(alloc, b"x")?))?,
+        doubled(alloc, Tagged::Number(7))?,
     ])
 }
 
 // Each list of another type is copied with all its items.
 #[test]
 fn ample(rt: HostRuntime) -> Result<(), Fail> {
-    assert_eq!(rt; doubles(rt.alloc())?, [2; 9]);
+    assert_eq!(rt; told(rt.alloc())?, [2; 3]);
+    assert_eq!(rt; asked(rt.alloc())?, [2; 4]);
+    assert_eq!(rt; saved(rt.alloc())?, [2; 2]);
     Ok(())
 }
 
@@ -284,14 +308,14 @@ fn refused(alloc: Global) -> Result<usize, NoMemory> {
     Ok(refused.effects.len() + refused.notes.len())
 }
 
+fn change(alloc: Global, words: &Args) -> Result<Outcome<Blob>, NoMemory> {
+    let effect = own_words(alloc, APPEND.name, words)?;
+    let note = on_key(alloc, b"append", words)?;
+    Outcome::change(alloc, After::Keep, Reply::Int(1), effect, note)
+}
+
 fn changed(alloc: Global, words: &Args) -> Result<usize, NoMemory> {
-    let changed: Outcome<Blob> = Outcome::change(
-        alloc,
-        After::Keep,
-        Reply::Int(1),
-        own_words(alloc, APPEND.name, words)?,
-        on_key(alloc, b"append", words)?,
-    )?;
+    let changed = change(alloc, words)?;
     Ok(changed.effects.len() + changed.notes.len())
 }
 
