@@ -18,7 +18,6 @@ mod disk;
 mod record;
 
 use crate::{Choice, Dir, DirFault, FileName, ReadAllStop};
-use contents::Contents;
 use core_types::{Blob, NoMemory};
 use deed::{Asked, Came, Deed};
 use record::Record;
@@ -58,12 +57,13 @@ impl MemoryDir {
         ensures untouched { IfOk result (λ dir. dir ≡ untouched fails.now) }
         ensures files { IfOk result (λ dir. files_now dir.past ≡ no_files) }
     {
+        let fails = Vec::from_slice(alloc, fails)?;
         Ok(MemoryDir {
             alloc,
-            record: Record::new(alloc, Contents::none())?,
+            record: Record::none(alloc),
             faults: 0,
             calls: 0,
-            fails: Vec::from_slice(alloc, fails)?,
+            fails,
         })
     }
 
@@ -75,6 +75,7 @@ impl MemoryDir {
         ensures files { IfOk result
             (λ dir. files_now dir.past ≡ with_file name bytes.now (files_now self.past)) }
     {
+        let bytes = Blob::from_slice(self.alloc, bytes)?;
         let MemoryDir {
             alloc,
             record,
@@ -82,11 +83,9 @@ impl MemoryDir {
             calls,
             fails,
         } = self;
-        let mut files = record.into_files();
-        files.put(name, Some(Blob::from_slice(alloc, bytes)?));
         Ok(MemoryDir {
             alloc,
-            record: Record::new(alloc, files)?,
+            record: record.with_file(alloc, name, bytes)?,
             faults,
             calls,
             fails,
@@ -110,10 +109,10 @@ impl MemoryDir {
         ensures allowed { IfOk result (λ dir.
             Leaves (disk_at self.now.past choice.since) (files_now dir.past)) }
     {
-        let disk = self.record.disk_at(self.alloc, choice.since as usize)?;
+        let record = self.record.image(self.alloc, choice)?;
         Ok(MemoryDir {
             alloc: self.alloc,
-            record: Record::new(self.alloc, disk.chosen(self.alloc, choice)?)?,
+            record,
             faults: 0,
             calls: 0,
             fails: Vec::new(self.alloc),

@@ -4,6 +4,7 @@ ghost use Rattle.std.specs.Prelude.{◌≡◌, ◌≤◌, ◌↔◌, ℕ, Ok, Er
 ghost use Rattle.std.specs.IoError.{error_kind};
 ghost use Rattle.core_types.specs.Causes.{one_more, HasCause, HasCauseFor};
 ghost use Rattle.disk_model.specs.declared.dir.ReadAllStop.TheVariants as stops;
+ghost use Rattle.disk_model.specs.inner.RealFolder.{unlocked, or_here};
 
 mod file;
 mod files;
@@ -44,11 +45,10 @@ impl<R: Files<File = File> + Drop> RealDir<R> {
     pub fn new(rt: R, alloc: Global, folder: &str) -> Result<RealDir<R>, NoMemory>
         ensures no_faults { IfOk result (λ dir. dir ≡ 0) }
     {
-        let folder = if folder.is_empty() { "." } else { folder };
-        let path = PathBuf::from_str(alloc, folder)?;
+        let folder = folder_at(alloc, folder)?;
         Ok(RealDir {
             rt,
-            folder: RealFolder::new(alloc, path)?,
+            folder,
             faults: 0,
         })
     }
@@ -87,6 +87,14 @@ impl<R: Files<File = File> + Drop> RealDir<R> {
         self.faults = self.faults.saturating_add(1);
         DirFault
     }
+}
+
+// The folder at this path, where the empty path is the folder that the program runs in.
+fn folder_at(alloc: Global, path: &str) -> Result<RealFolder, NoMemory>
+    ensures unlocked { IfOk result (λ folder. folder ≡ unlocked (or_here path.now)) }
+{
+    let path = if path.is_empty() { "." } else { path };
+    RealFolder::new(alloc, PathBuf::from_str(alloc, path)?)
 }
 
 impl<R: Files<File = File> + Drop> Dir for RealDir<R> {

@@ -1,6 +1,6 @@
 -- What is known of a folder of the file system: whether it is locked, and of its names and of each
 -- of its four files what is owed.
-use Rattle.std.specs.Prelude.{◌≡◌, ◌⊎◌, ℕ, List, Bool, true, false}
+use Rattle.std.specs.Prelude.{◌≡◌, ◌⊎◌, ◌==◌, if◌then◌else◌, ℕ, List, length, codes, Bool, true, false}
 use Rattle.std.specs.Path.{path_join}
 use Rattle.disk_model.specs.FileName.{text}
 use Rattle.disk_model.specs.declared.file_name.FileName.{FileName}
@@ -90,6 +90,10 @@ maybe_moved from to files =
 -- a folder of which nothing was asked yet
 abbrev pub unlocked : List ℕ → RealFolder
 unlocked path = record { is_locked = false; names = No; files = all_unopened path }
+
+-- the path, where the empty one is the folder that the program runs in
+abbrev pub or_here : List ℕ → List ℕ
+or_here path = if length path == 0 then codes "." else path
 
 -- the folder, locked
 abbrev pub locked : RealFolder → RealFolder

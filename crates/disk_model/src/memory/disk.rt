@@ -1,6 +1,6 @@
 //! A disk, for what a crash leaves of it.
 
-ghost use Rattle.std.specs.Prelude.{◌≡◌, ℕ, Option, Some, take, map, slice_get, IfOk, OnOk};
+ghost use Rattle.std.specs.Prelude.{◌≡◌, ◌++◌, [], ◌∷◌, ℕ, Option, Some, take, map, slice_get, IfOk, OnOk};
 ghost use Rattle.std.specs.Option.{option_map, option_and_then, option_copied};
 ghost use Rattle.disk_model.specs.Choices.{after_steps, chosen_of};
 ghost use Rattle.disk_model.specs.Disk.{after_renames, names_now, number_of, settled, settled_disk, settled_or_empty, with_change, with_changed, made_safe, on_file, appended, created, moved, names_synced, Change as Spoken};
@@ -20,7 +20,7 @@ use std::marker::Model;
 use stored::{Change, Stored};
 
 /// The synced names, the changes of them since, and every file that was ever made.
-#[derive(Debug, Drop)]
+#[derive(Drop)]
 pub(crate) struct Disk {
     names: Names,
     renames: Vec<NameChange>,
@@ -46,10 +46,7 @@ impl Disk {
         ensures settled { IfOk result (λ disk. disk ≡ settled_disk files.now) }
     {
         let mut stored = Vec::new(alloc);
-        stored.push(settled_file(alloc, files.get(FileName::Log))?)?;
-        stored.push(settled_file(alloc, files.get(FileName::LogTemp))?)?;
-        stored.push(settled_file(alloc, files.get(FileName::Dump))?)?;
-        stored.push(settled_file(alloc, files.get(FileName::DumpTemp))?)?;
+        push_settled(&mut stored, alloc, files)?;
         Ok(Disk {
             names: Names::of(files),
             renames: Vec::new(alloc),
@@ -61,7 +58,7 @@ impl Disk {
     fn names_after(&self, kept: usize) -> Names
         ensures names { result ≡ after_renames self.now.names (take kept self.now.renames) }
     {
-        let mut names = self.names.copy();
+        let mut names = self.names;
         let kept = kept.min(self.renames.len());
         names.change_all(&self.renames[..kept]);
         names
@@ -71,7 +68,7 @@ impl Disk {
     fn names_now(&self) -> Names
         ensures names { result ≡ names_now self.now }
     {
-        let mut names = self.names.copy();
+        let mut names = self.names;
         names.change_all(&self.renames);
         names
     }
@@ -168,17 +165,39 @@ impl Disk {
     pub(crate) fn chosen(&self, alloc: Global, choice: Choice) -> Result<Contents, NoMemory>
         ensures chosen { IfOk result (λ files. files ≡ chosen_of choice self.now) }
     {
+        let mut files = Contents::none();
+        self.put_chosen(alloc, choice, &mut files)?;
+        Ok(files)
+    }
+
+    // Puts each of the files that a crash leaves in its place, where it keeps what the choice says.
+    fn put_chosen(
+        &self,
+        alloc: Global,
+        choice: Choice,
+        files: &mut Contents,
+    ) -> Result<(), NoMemory>
+        ensures chosen { OnOk result (files.new ≡ chosen_of choice self.now) }
+    {
         let names = self.names_after(choice.names as usize);
         let log = names.get(FileName::Log);
         let log_temp = names.get(FileName::LogTemp);
         let dump = names.get(FileName::Dump);
         let dump_temp = names.get(FileName::DumpTemp);
-        Ok(Contents::of(
-            self.left(alloc, log, choice.log as usize)?,
+        files.put(FileName::Log, self.left(alloc, log, choice.log as usize)?);
+        files.put(
+            FileName::LogTemp,
             self.left(alloc, log_temp, choice.log_temp as usize)?,
+        );
+        files.put(
+            FileName::Dump,
             self.left(alloc, dump, choice.dump as usize)?,
+        );
+        files.put(
+            FileName::DumpTemp,
             self.left(alloc, dump_temp, choice.dump_temp as usize)?,
-        ))
+        );
+        Ok(())
     }
 
     // The file of this number, with this many of its first unsynced steps.
@@ -202,15 +221,36 @@ impl Disk {
     }
 }
 
-// A file of these bytes, or of none.
-fn settled_file(alloc: Global, bytes: Option<&Blob>) -> Result<Stored, NoMemory>
-    ensures settled { IfOk result (λ file. file ≡ settled_or_empty (option_copied bytes.entry)) }
+// Adds each of the files, all of it synced, or an empty one in its place.
+fn push_settled(stored: &mut Vec<Stored>, alloc: Global, files: &Contents) -> Result<(), NoMemory>
+    ensures settled { OnOk result
+        (stored.new.items ≡ stored.old.items ++ (settled_disk files.now).files) }
 {
-    let bytes = match bytes {
-        Some(bytes) => bytes.copy(alloc)?,
-        None => Blob::new(alloc),
-    };
-    Ok(Stored::settled(alloc, bytes))
+    push_one(stored, alloc, files.get(FileName::Log))?;
+    push_one(stored, alloc, files.get(FileName::LogTemp))?;
+    push_one(stored, alloc, files.get(FileName::Dump))?;
+    push_one(stored, alloc, files.get(FileName::DumpTemp))
+}
+
+// Adds a file of these bytes, or of none.
+fn push_one(stored: &mut Vec<Stored>, alloc: Global, bytes: Option<&Blob>) -> Result<(), NoMemory>
+    ensures settled { OnOk result
+        (stored.new.items ≡ stored.old.items ++ settled_or_empty (option_copied bytes.entry) ∷ []) }
+{
+    let bytes = copy_or_empty(alloc, bytes)?;
+    stored.push(Stored::settled(alloc, bytes))?;
+    Ok(())
+}
+
+// The bytes a second time, or none.
+fn copy_or_empty(alloc: Global, bytes: Option<&Blob>) -> Result<Blob, NoMemory>
+    ensures bytes { IfOk result
+        (λ copied. settled copied ≡ settled_or_empty (option_copied bytes.entry)) }
+{
+    match bytes {
+        Some(bytes) => bytes.copy(alloc),
+        None => Ok(Blob::new(alloc)),
+    }
 }
 
 // Changes the file of this number, where there is one.

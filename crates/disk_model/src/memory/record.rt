@@ -2,7 +2,8 @@
 
 ghost use Rattle.std.specs.Prelude.{◌≡◌, [], ◌∷◌, IfOk, OnOk, OnErr};
 ghost use Rattle.std.specs.Option.{option_copied};
-ghost use Rattle.disk_model.specs.Files.{file, HasFew};
+ghost use Rattle.disk_model.specs.Files.{no_files, file, with_file, HasFew};
+ghost use Rattle.disk_model.specs.Choices.{chosen};
 ghost use Rattle.disk_model.specs.Memory.{begun};
 ghost use Rattle.disk_model.specs.Past.{disk_at, files_now, with_calls};
 ghost use Rattle.disk_model.specs.inner.Recorded.{call_of, outcome_of, made_of, effect_so};
@@ -11,7 +12,7 @@ ghost use Rattle.disk_model.specs.declared.file_name.FileName.{FileName};
 use super::contents::Contents;
 use super::deed::Deed;
 use super::disk::{Disk, replay_all};
-use crate::FileName;
+use crate::{Choice, FileName};
 use core_types::{Blob, NoMemory};
 use std::alloc::Global;
 use std::marker::Model;
@@ -38,6 +39,20 @@ impl Model for Record {
 }
 
 impl Record {
+    /// No file, and no call yet.
+    pub(crate) fn none(alloc: Global) -> Record
+        ensures begun { result ≡ begun no_files }
+        ensures files { files_now result ≡ no_files }
+    {
+        let began = Contents::none();
+        let files = Contents::none();
+        Record {
+            began,
+            deeds: Vec::new(alloc),
+            files,
+        }
+    }
+
     /// These files, all of them synced, and no call yet.
     pub(crate) fn new(alloc: Global, files: Contents) -> Result<Record, NoMemory>
         ensures begun { IfOk result (λ made. made ≡ begun files) }
@@ -81,8 +96,43 @@ impl Record {
         Ok(())
     }
 
-    /// The disk at a moment, or the last one.
-    pub(crate) fn disk_at(&self, alloc: Global, moment: usize) -> Result<Disk, NoMemory>
+    /// The files as they read with a further one, all of them synced, and no call yet.
+    pub(crate) fn with_file(
+        self,
+        alloc: Global,
+        name: FileName,
+        bytes: Blob,
+    ) -> Result<Record, NoMemory>
+        ensures begun { IfOk result
+            (λ made. made ≡ begun (with_file name bytes (files_now self))) }
+        ensures files { IfOk result
+            (λ made. files_now made ≡ with_file name bytes (files_now self)) }
+    {
+        let mut files = self.into_files();
+        files.put(name, Some(bytes));
+        Record::new(alloc, files)
+    }
+
+    /// What the choice leaves at its moment, all of it synced, and no call yet.
+    pub(crate) fn image(&self, alloc: Global, choice: Choice) -> Result<Record, NoMemory>
+        ensures begun { IfOk result (λ made. made ≡ begun (chosen choice self.now)) }
+        ensures files { IfOk result (λ made. files_now made ≡ chosen choice self.now) }
+    {
+        Record::new(alloc, self.chosen(alloc, choice)?)
+    }
+
+    // The files that the choice leaves at its moment.
+    fn chosen(&self, alloc: Global, choice: Choice) -> Result<Contents, NoMemory>
+        ensures chosen { IfOk result (λ files. files ≡ chosen choice self.now) }
+    {
+        let disk = self.disk_at(alloc, choice.since as usize)?;
+        let files = disk.chosen(alloc, choice);
+        drop(disk);
+        files
+    }
+
+    // The disk at a moment, or the last one.
+    fn disk_at(&self, alloc: Global, moment: usize) -> Result<Disk, NoMemory>
         ensures disk { IfOk result (λ disk. disk ≡ disk_at self.now moment) }
     {
         let mut disk = Disk::settled(alloc, &self.began)?;

@@ -3,7 +3,7 @@
 ghost use Rattle.std.specs.Prelude.{◌≡◌, IfOk, OnOk, OnErr};
 ghost use Rattle.std.specs.Borrow.{sem};
 ghost use Rattle.std.specs.Path.{path_bytes};
-ghost use Rattle.disk_model.specs.inner.RealFolder.{all_unopened, named, moved, maybe_moved};
+ghost use Rattle.disk_model.specs.inner.RealFolder.{unopened_in, all_unopened, named, moved, maybe_moved};
 ghost use Rattle.disk_model.specs.inner.RealLends.{LendsFile};
 
 use super::file::RealFile;
@@ -45,11 +45,13 @@ impl RealFiles {
     pub(crate) fn new(alloc: Global, folder: Path<'_>) -> Result<RealFiles, NoMemory>
         ensures unopened { IfOk result (λ files. files ≡ all_unopened (path_bytes folder.entry)) }
     {
+        let (log, log_temp) = two_files(alloc, folder, FileName::Log, FileName::LogTemp)?;
+        let (dump, dump_temp) = two_files(alloc, folder, FileName::Dump, FileName::DumpTemp)?;
         Ok(RealFiles {
-            log: RealFile::new(folder.join(alloc, FileName::Log.as_str())?),
-            log_temp: RealFile::new(folder.join(alloc, FileName::LogTemp.as_str())?),
-            dump: RealFile::new(folder.join(alloc, FileName::Dump.as_str())?),
-            dump_temp: RealFile::new(folder.join(alloc, FileName::DumpTemp.as_str())?),
+            log,
+            log_temp,
+            dump,
+            dump_temp,
         })
     }
 
@@ -114,4 +116,27 @@ impl RealFiles {
         let there = self.get(to).bytes();
         self.get_mut(to).close(there.or(came));
     }
+}
+
+// Two of the files in a folder. None is opened yet.
+fn two_files(
+    alloc: Global,
+    folder: Path<'_>,
+    first: FileName,
+    second: FileName,
+) -> Result<(RealFile, RealFile), NoMemory>
+    ensures unopened { IfOk result (λ (one, other).
+        (one ≡ unopened_in (path_bytes folder.entry) first)
+        × (other ≡ unopened_in (path_bytes folder.entry) second)) }
+{
+    let one = file_in(alloc, folder, first)?;
+    let other = file_in(alloc, folder, second)?;
+    Ok((one, other))
+}
+
+// A file in a folder, which is not opened yet.
+fn file_in(alloc: Global, folder: Path<'_>, name: FileName) -> Result<RealFile, NoMemory>
+    ensures unopened { IfOk result (λ file. file ≡ unopened_in (path_bytes folder.entry) name) }
+{
+    Ok(RealFile::new(folder.join(alloc, name.as_str())?))
 }

@@ -9,7 +9,7 @@ use crate::memory::contents::Contents;
 use std::marker::Model;
 
 /// The number of the file that each name stands for, where it stands for one.
-#[derive(Debug, Drop)]
+#[derive(Clone, Copy)]
 pub(crate) struct Names {
     log: Option<usize>,
     log_temp: Option<usize>,
@@ -29,15 +29,23 @@ impl Model for Names {
       dump_temp =
           n.dump_temp;
     } };
+
+    ghost inverse = { λ n. record {
+      log = n.log;
+      log_temp = n.log_temp;
+      dump = n.dump;
+      dump_temp =
+          n.dump_temp;
+    } };
 }
 
 /// A change of the names.
-#[derive(Debug, Drop)]
+#[derive(Drop)]
 pub(crate) struct NameChange {
     what: WhatChanged,
 }
 
-#[derive(Debug, Drop)]
+#[derive(Drop)]
 enum WhatChanged {
     // A name stands for a new file.
     Created(FileName, usize),
@@ -87,18 +95,6 @@ impl Names {
             log_temp: files.get(FileName::LogTemp).map(|_| 1),
             dump: files.get(FileName::Dump).map(|_| 2),
             dump_temp: files.get(FileName::DumpTemp).map(|_| 3),
-        }
-    }
-
-    /// The same numbers a second time.
-    pub(crate) fn copy(&self) -> Names
-        ensures same { result ≡ self.now }
-    {
-        Names {
-            log: self.log,
-            log_temp: self.log_temp,
-            dump: self.dump,
-            dump_temp: self.dump_temp,
         }
     }
 

@@ -9,12 +9,12 @@ use std::alloc::Global;
 use std::marker::Model;
 
 /// A change of a file's bytes.
-#[derive(Debug, Drop)]
+#[derive(Drop)]
 pub(crate) struct Change {
     what: WhatChanged,
 }
 
-#[derive(Debug, Drop)]
+#[derive(Drop)]
 enum WhatChanged {
     // These bytes were added at the end.
     Added(Blob),
@@ -85,7 +85,7 @@ impl Change {
 }
 
 /// A file.
-#[derive(Debug, Drop)]
+#[derive(Drop)]
 pub(crate) struct Stored {
     synced: Blob,
     changes: Vec<Change>,

@@ -5,8 +5,7 @@ use Rattle.disk_model.specs.Past.{files_now}
 use Rattle.disk_model.proofs.Copies.{image_allowed}
 use Rattle.disk_model.proofs.memory.MemoryDir.image.Goals as goal
 
-files : (c : goal.After-drop-disk-inside-3) → files_now c.in_ok-new.field-0 ≡ chosen c.args.choice c.args.self.now.past
-files c = search rules
-
 pub returns-clause-allowed : goal.returns-clause-allowed
-returns-clause-allowed c = image_allowed c.args.choice c.args.self.now.past (files_now c.in_ok-new.field-0) (files c)
+returns-clause-allowed c =
+    let files : files_now c.in_ok-record.record ≡ chosen c.args.choice c.args.self.now.past = search rules in
+    image_allowed c.args.choice c.args.self.now.past (files_now c.in_ok-record.record) files
