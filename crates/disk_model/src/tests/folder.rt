@@ -98,6 +98,7 @@ fn files(rt: HostRuntime) -> Result<(), Fail> {
     let made = makes_files(&mut dir, alloc) && files_are_made(&rt);
     let moved = moves_files(&mut dir, alloc) && files_are_moved(&rt);
     let anew = write(&mut dir, FileName::Log, b"new") && holds(&rt, "files/appendonly.aof", "new");
+    drop(dir);
     assert!(rt; made && moved && anew);
     Ok(())
 }
@@ -107,10 +108,12 @@ fn second_fails(rt: HostRuntime, alloc: Global, second: &mut RealDir<HostRuntime
     let Ok(mut first) = RealDir::new(rt, alloc, "held") else {
         return false;
     };
-    write(&mut first, FileName::Log, b"first")
+    let failed = write(&mut first, FileName::Log, b"first")
         && each_call_fails(second, alloc)
         && first.append(FileName::Log, b" goes on").is_ok()
-        && holds(&rt, "held/appendonly.aof", "first goes on")
+        && holds(&rt, "held/appendonly.aof", "first goes on");
+    drop(first);
+    failed
 }
 
 // One directory at a time holds a folder.
@@ -122,6 +125,7 @@ fn folder_is_held(rt: HostRuntime) -> Result<(), Fail> {
     let failed = second_fails(rt, alloc, &mut second);
     let follows = write(&mut second, FileName::Log, b"second")
         && holds(&rt, "held/appendonly.aof", "second");
+    drop(second);
     assert!(rt; failed && follows);
     Ok(())
 }
@@ -157,6 +161,7 @@ fn links(rt: HostRuntime) -> Result<(), Fail> {
     let missing = reads(&mut dir, alloc, FileName::Dump, None);
     let made = write(&mut dir, FileName::Dump, b"dump") && holds(&rt, "links/far/dump", "dump");
     let replaced = device_fails(&mut dir) && holds(&rt, "links/data/appendonly.aof", "log!");
+    drop(dir);
     assert!(rt; missing && made && replaced);
     Ok(())
 }

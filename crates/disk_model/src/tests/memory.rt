@@ -25,7 +25,9 @@ fn row_holds(dir: &MemoryDir, name: FileName, row: Row) -> Result<bool, NoMemory
             dump: steps,
             dump_temp: steps,
         })?;
-        if image.content(name) != *want {
+        let left = image.content(name) == *want;
+        drop(image);
+        if !left {
             return Ok(false);
         }
     }
@@ -47,7 +49,9 @@ fn cut_and_append(alloc: Global, fails: &[u64], rows: &[Row]) -> Result<bool, No
     if dir.cut(FileName::Log, 1).is_ok() && dir.append(FileName::Log, b"xy").is_ok() {
         let _ = dir.sync(FileName::Log);
     }
-    rows_hold(&dir, FileName::Log, rows)
+    let hold = rows_hold(&dir, FileName::Log, rows);
+    drop(dir);
+    hold
 }
 
 const ABC: Option<&[u8]> = Some(b"abc");
@@ -117,7 +121,9 @@ fn bytes_are_left_in_order(rt: HostRuntime) -> Result<(), Fail> {
 fn replace(alloc: Global, fails: &[u64], name: FileName, rows: &[Row]) -> Result<bool, NoMemory> {
     let mut dir = MemoryDir::new(alloc, fails)?.with_file(FileName::Log, b"old")?;
     let _ = put_in_place(&mut dir);
-    rows_hold(&dir, name, rows)
+    let hold = rows_hold(&dir, name, rows);
+    drop(dir);
+    hold
 }
 
 fn put_in_place(dir: &mut MemoryDir) -> Result<(), DirFault> {
@@ -216,18 +222,22 @@ fn names_are_left_in_order(rt: HostRuntime) -> Result<(), Fail> {
     Ok(())
 }
 
-// The dump of a directory that got one in two pieces, and whether it has a log: as it reads, and at
-// a crash.
+// Whether a read gives these bytes, or that no file is there.
+fn reads(dir: &mut MemoryDir, alloc: Global, name: FileName, want: Option<&[u8]>) -> bool {
+    match dir.read_all(alloc, name) {
+        Ok(found) => found.as_ref().map(|blob| blob.as_slice()) == want,
+        Err(_) => false,
+    }
+}
+
+// Whether a directory that got a dump in two pieces, and no log, reads so.
 fn dump_reads(alloc: Global, want: &[u8]) -> Result<bool, NoMemory> {
     let mut dir = MemoryDir::new(alloc, &[])?.with_file(FileName::Dump, b"REDIS")?;
-    let done = dir.append(FileName::Dump, b"0009").is_ok();
-    let Ok(Some(found)) = dir.read_all(alloc, FileName::Dump) else {
-        return Ok(false);
-    };
-    let Ok(None) = dir.read_all(alloc, FileName::Log) else {
-        return Ok(false);
-    };
-    Ok(done && found.as_slice() == want)
+    let read = dir.append(FileName::Dump, b"0009").is_ok()
+        && reads(&mut dir, alloc, FileName::Dump, Some(want))
+        && reads(&mut dir, alloc, FileName::Log, None);
+    drop(dir);
+    Ok(read)
 }
 
 // Each call that takes memory answers something else than want of memory, and what it should.
