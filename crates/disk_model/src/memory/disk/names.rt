@@ -1,11 +1,13 @@
 //! Which file each name stands for, and how that changes.
 
 ghost use Rattle.std.specs.Prelude.{◌≡◌, Option, Some, None};
+ghost use Rattle.std.specs.Option.{option_copied};
 ghost use Rattle.disk_model.specs.Disk.{number_of, with_number, renamed, after_renames, if_there, NameChange as Spoken};
 ghost use Rattle.disk_model.specs.Files.{Files};
 
 use crate::FileName;
 use crate::memory::contents::Contents;
+use core_types::Blob;
 use std::marker::Model;
 
 /// The number of the file that each name stands for, where it stands for one.
@@ -91,10 +93,10 @@ impl Names {
         ensures dump_temp { result.dump_temp ≡ if_there files.now.dump_temp 3 }
     {
         Names {
-            log: files.get(FileName::Log).map(|_| 0),
-            log_temp: files.get(FileName::LogTemp).map(|_| 1),
-            dump: files.get(FileName::Dump).map(|_| 2),
-            dump_temp: files.get(FileName::DumpTemp).map(|_| 3),
+            log: number_where_there(files.get(FileName::Log), 0),
+            log_temp: number_where_there(files.get(FileName::LogTemp), 1),
+            dump: number_where_there(files.get(FileName::Dump), 2),
+            dump_temp: number_where_there(files.get(FileName::DumpTemp), 3),
         }
     }
 
@@ -143,5 +145,15 @@ impl Names {
         for change in changes {
             self.change(change);
         }
+    }
+}
+
+// The number of a file, where it is there.
+fn number_where_there(bytes: Option<&Blob>, number: usize) -> Option<usize>
+    ensures number { result ≡ if_there (option_copied bytes.entry) number }
+{
+    match bytes {
+        Some(_) => Some(number),
+        None => None,
     }
 }
