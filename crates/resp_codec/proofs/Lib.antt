@@ -6,6 +6,7 @@ pub mod OneReading
 pub mod InlineWords
 pub mod ReaderHeaders
 pub mod ReaderSteps
+pub mod RequestDue
 pub mod Words
 pub mod Arrays
 pub mod Fronts

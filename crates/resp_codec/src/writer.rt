@@ -3,7 +3,7 @@
 ghost use Rattle.std.specs.Prelude.{◌≡◌, ◌∷◌, ◌++◌, length, take, OnOk, OnErr};
 ghost use Rattle.std.specs.List.{flat_map};
 ghost use Rattle.std.specs.Fmt.{decimal, signed_decimal};
-ghost use Rattle.resp_codec.specs.Marks.{star, colon, marked, header};
+ghost use Rattle.resp_codec.specs.Marks.{star, colon, crlf, marked, header};
 ghost use Rattle.resp_codec.specs.ReplyText.{text, part_text};
 ghost use Rattle.resp_codec.specs.Spelling.{multibulk, IsRequest, bulk};
 
@@ -105,14 +105,20 @@ fn append_bulk(out: &mut Blob, bytes: &Blob) -> Result<(), NoMemory>
     ensures ok { OnOk result (out.new ≡ out.old ++ bulk bytes.now) }
     ensures err { OnErr result (take (length out.old) out.new ≡ out.old) }
 {
-    // The buffer grows by the size of a large bulk, and not to the double; a shorter one than what
-    // stands there leaves it to grow as ever, so that what stands there is moved seldom.
-    if bytes.len() > LARGE.max(out.len()) {
-        out.reserve(bytes.len().saturating_add(BULK_FRAME))?;
-    }
+    make_room(out, bytes.len())?;
     append_header(out, b'$', bytes.len() as u64)?;
-    out.push_slice(bytes.as_slice())?;
-    out.push_slice(b"\r\n")
+    append_ended(out, bytes.as_slice())
+}
+
+// The buffer grows by the size of a large bulk, and not to the double; a shorter one than what
+// stands there leaves it to grow as ever, so that what stands there is moved seldom.
+fn make_room(out: &mut Blob, size: usize) -> Result<(), NoMemory>
+    ensures same { out.new ≡ out.old }
+{
+    if size <= LARGE.max(out.len()) {
+        return Ok(());
+    }
+    out.reserve(size.saturating_add(BULK_FRAME))
 }
 
 // A mark, and a count in decimal, as a line.
@@ -120,18 +126,14 @@ fn append_header(out: &mut Blob, mark: u8, count: u64) -> Result<(), NoMemory>
     ensures ok { OnOk result (out.new ≡ out.old ++ header mark count) }
     ensures err { OnErr result (take (length out.old) out.new ≡ out.old) }
 {
-    out.push(mark)?;
-    out.push_slice(u64_text(count).as_slice())?;
-    out.push_slice(b"\r\n")
+    append_line(out, mark, u64_text(count).as_slice())
 }
 
 fn append_int(out: &mut Blob, n: i64) -> Result<(), NoMemory>
     ensures ok { OnOk result (out.new ≡ out.old ++ marked colon (signed_decimal n)) }
     ensures err { OnErr result (take (length out.old) out.new ≡ out.old) }
 {
-    out.push(b':')?;
-    out.push_slice(i64_text(n).as_slice())?;
-    out.push_slice(b"\r\n")
+    append_line(out, b':', i64_text(n).as_slice())
 }
 
 // A mark and a text, as a line.
@@ -140,6 +142,14 @@ fn append_line(out: &mut Blob, mark: u8, line: &[u8]) -> Result<(), NoMemory>
     ensures err { OnErr result (take (length out.old) out.new ≡ out.old) }
 {
     out.push(mark)?;
-    out.push_slice(line)?;
+    append_ended(out, line)
+}
+
+// A text, and the end of its line.
+fn append_ended(out: &mut Blob, text: &[u8]) -> Result<(), NoMemory>
+    ensures ok { OnOk result (out.new ≡ out.old ++ text.now ++ crlf) }
+    ensures err { OnErr result (take (length out.old) out.new ≡ out.old) }
+{
+    out.push_slice(text)?;
     out.push_slice(b"\r\n")
 }
