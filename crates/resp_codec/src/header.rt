@@ -8,7 +8,7 @@ use crate::line::{FARTHEST, LineEnd, line_end};
 use core_types::BadRequest;
 
 /// What stands where a header is due.
-#[derive(Clone, Copy, Debug)]
+#[derive(Clone, Copy)]
 pub(crate) enum Header {
     /// Its CR, or the byte after that, has not come yet.
     Open,

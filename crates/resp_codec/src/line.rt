@@ -10,7 +10,7 @@ pub(crate) const LF: u8 = b'\n';
 pub(crate) const FARTHEST: usize = 65_537;
 
 /// What stands where CR LF is due.
-#[derive(Clone, Copy, Debug)]
+#[derive(Clone, Copy)]
 pub(crate) enum LineEnd {
     /// Nothing yet, or a CR alone.
     Open,

@@ -31,7 +31,7 @@ pub(crate) enum Stage {
 }
 
 /// What a step came to.
-#[derive(Debug, Drop)]
+#[derive(Drop)]
 pub(crate) enum Step {
     /// A part of a request was read, or an empty request, which is skipped.
     Onward,

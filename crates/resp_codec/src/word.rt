@@ -11,7 +11,7 @@ use core_types::{BadRequest, Blob, NoMemory};
 use std::alloc::Global;
 
 /// What stands where a word is due.
-#[derive(Debug, Drop)]
+#[derive(Drop)]
 pub(crate) enum Word {
     /// A word, and how many bytes its bulk string takes.
     Whole(Blob, usize),
