@@ -10,7 +10,7 @@ use resp_codec::{Array, read_array};
 use std::alloc::Global;
 
 /// What stands where a request is due.
-#[derive(Debug, Drop)]
+#[derive(Drop)]
 pub(crate) enum Entry {
     /// The request that opens a unit, and how many bytes it takes.
     Multi(usize),

@@ -1,17 +1,17 @@
 //! The unit at the front of bytes.
 
-ghost use Rattle.std.specs.Prelude.{◌<◌, ◌+◌, ◌^◌, length, IfOk};
+ghost use Rattle.std.specs.Prelude.{◌≡◌, ◌<◌, ◌+◌, ◌^◌, [], ◌∷◌, ◌++◌, length, IfOk, OnOk};
 ghost use Rattle.effect_log.specs.Unit.{multi};
 ghost use Rattle.effect_log.specs.Entry.{IsNamedFront};
 ghost use Rattle.effect_log.specs.Front.{IsFront};
 
 use crate::entry::{Entry, read_entry};
 use crate::reason::Reason;
-use core_types::{Effects, NoMemory, Sequence};
+use core_types::{Effect, Effects, NoMemory, Sequence};
 use std::alloc::Global;
 
 /// What stands at the front of bytes, where a unit is due.
-#[derive(Debug, Drop)]
+#[derive(Drop)]
 pub(crate) enum Front {
     /// A whole unit: its effects, where each of them begins in the log, and how many bytes it
     /// takes.
@@ -34,8 +34,7 @@ pub(crate) fn read_unit(alloc: Global, bytes: &[u8], offset: u64) -> Result<Fron
         Entry::Effect(effect, size) => {
             let mut effects = Sequence::new(alloc);
             let mut starts = Vec::new(alloc);
-            effects.push(effect)?;
-            starts.push(offset)?;
+            add_effect(&mut effects, &mut starts, effect, offset)?;
             Ok(Front::Unit(effects, starts, size))
         }
         Entry::Unfinished => Ok(Front::Torn),
@@ -60,8 +59,7 @@ fn read_enclosed(
     loop {
         match read_entry(alloc, &bytes[place..])? {
             Entry::Effect(effect, size) => {
-                effects.push(effect)?;
-                starts.push(offset + place as u64)?;
+                add_effect(&mut effects, &mut starts, effect, offset + place as u64)?;
                 place += size;
             }
             Entry::Exec(size) => return Ok(Front::Unit(effects, starts, place + size)),
@@ -70,4 +68,19 @@ fn read_enclosed(
             Entry::Bad(at, why) => return Ok(Front::Bad(place + at, why)),
         }
     }
+}
+
+// Adds an effect, and where it begins in the log.
+fn add_effect(
+    effects: &mut Effects,
+    starts: &mut Vec<u64>,
+    effect: Effect,
+    start: u64,
+) -> Result<(), NoMemory>
+    ensures effects { OnOk result (effects.new ≡ effects.old ++ effect ∷ []) }
+    ensures starts { OnOk result (starts.new.items ≡ starts.old.items ++ start ∷ []) }
+{
+    effects.push(effect)?;
+    starts.push(start)?;
+    Ok(())
 }
