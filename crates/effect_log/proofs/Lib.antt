@@ -1,5 +1,6 @@
 pub mod UnitTexts
 pub mod OpenedUnits
+pub mod Taken
 pub mod Entries
 pub mod Judging
 pub mod OneLog

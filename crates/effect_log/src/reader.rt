@@ -88,13 +88,23 @@ impl<'a> LogReader<'a> {
         }
         match read_unit(self.alloc, rest, self.place as u64)? {
             Front::Unit(effects, starts, size) => {
-                self.place += size;
-                self.starts = starts;
+                self.pass(starts, size);
                 Ok(NextUnit::Unit(effects))
             }
             Front::Torn => Ok(NextUnit::Tail(self.place as u64)),
             Front::Bad(place, why) => Ok(NextUnit::Bad(self.place as u64 + place as u64, why)),
         }
+    }
+
+    // Passes a unit of this size, whose effects begin at these places.
+    fn pass(&mut self, starts: Vec<u64>, size: usize)
+        requires { self.old.place + size ≤ length self.old.bytes }
+        ensures bytes { self.new.bytes ≡ self.old.bytes }
+        ensures place { self.new.place ≡ self.old.place + size }
+        ensures starts { self.new.starts ≡ starts.items }
+    {
+        self.place += size;
+        self.starts = starts;
     }
 
     /// The offset of an effect of the last unit that was taken, counted from 0. Takes no memory.
