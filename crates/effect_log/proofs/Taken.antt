@@ -1,4 +1,4 @@
--- What the next unit of a log says of the log.
+-- What the next unit of a log says of the log. Serves the clauses of `LogReader::next`.
 use Rattle.std.proofs.Common.{◌≡◌, ℕ, ◌+◌, List, ◌++◌, length, ap, ◌∙◌}
 use Rattle.std.specs.List.{slice_get}
 use Rattle.std.proofs.lemmas.List.{drop-drop}

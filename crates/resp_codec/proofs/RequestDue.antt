@@ -1,4 +1,5 @@
--- What stands where a request is due, and none was begun.
+-- What stands where a request is due, and none was begun. Serves the clauses of `read_request`,
+-- `read_count` and `take_count`.
 use Rattle.std.proofs.Common.{◌≡◌, ◌≢◌, ℕ, zero, suc, ◌+◌, true, false, List, [], ◌∷◌, ◌++◌, slice_get, take, drop, Some, None, refl, sym, ap, subst, ◌∙◌, append-nil, arith, inl}
 use Rattle.std.proofs.lemmas.Bool.{ne_eqb}
 use Rattle.core_types.specs.declared.bad_request.BadRequest.TheVariants.{MultibulkLength}

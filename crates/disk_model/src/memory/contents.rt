@@ -49,6 +49,26 @@ impl Contents {
         }
     }
 
+    /// These files.
+    pub(crate) fn of(
+        log: Option<Blob>,
+        log_temp: Option<Blob>,
+        dump: Option<Blob>,
+        dump_temp: Option<Blob>,
+    ) -> Contents
+        ensures log { result.log ≡ log }
+        ensures log_temp { result.log_temp ≡ log_temp }
+        ensures dump { result.dump ≡ dump }
+        ensures dump_temp { result.dump_temp ≡ dump_temp }
+    {
+        Contents {
+            log,
+            log_temp,
+            dump,
+            dump_temp,
+        }
+    }
+
     /// The same files a second time.
     pub(crate) fn copy(&self, alloc: Global) -> Result<Contents, NoMemory>
         ensures same { IfOk result (λ copied. copied ≡ self.now) }

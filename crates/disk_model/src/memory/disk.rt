@@ -165,39 +165,17 @@ impl Disk {
     pub(crate) fn chosen(&self, alloc: Global, choice: Choice) -> Result<Contents, NoMemory>
         ensures chosen { IfOk result (λ files. files ≡ chosen_of choice self.now) }
     {
-        let mut files = Contents::none();
-        self.put_chosen(alloc, choice, &mut files)?;
-        Ok(files)
-    }
-
-    // Puts each of the files that a crash leaves in its place, where it keeps what the choice says.
-    fn put_chosen(
-        &self,
-        alloc: Global,
-        choice: Choice,
-        files: &mut Contents,
-    ) -> Result<(), NoMemory>
-        ensures chosen { OnOk result (files.new ≡ chosen_of choice self.now) }
-    {
         let names = self.names_after(choice.names as usize);
         let log = names.get(FileName::Log);
         let log_temp = names.get(FileName::LogTemp);
         let dump = names.get(FileName::Dump);
         let dump_temp = names.get(FileName::DumpTemp);
-        files.put(FileName::Log, self.left(alloc, log, choice.log as usize)?);
-        files.put(
-            FileName::LogTemp,
+        Ok(Contents::of(
+            self.left(alloc, log, choice.log as usize)?,
             self.left(alloc, log_temp, choice.log_temp as usize)?,
-        );
-        files.put(
-            FileName::Dump,
             self.left(alloc, dump, choice.dump as usize)?,
-        );
-        files.put(
-            FileName::DumpTemp,
             self.left(alloc, dump_temp, choice.dump_temp as usize)?,
-        );
-        Ok(())
+        ))
     }
 
     // The file of this number, with this many of its first unsynced steps.

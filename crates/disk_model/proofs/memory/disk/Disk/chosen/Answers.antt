@@ -1,10 +1,10 @@
 use Rattle.std.proofs.Common.{rules}
 use Rattle.disk_model.proofs.Copies.{chosen_made}
-use Rattle.disk_model.proofs.memory.disk.Disk.put_chosen.Goals as goal
+use Rattle.disk_model.proofs.memory.disk.Disk.chosen.Goals as goal
 
 pub returns : goal.returns
 returns c = record {
-  chosen = chosen_made c.args.choice c.args.self.now c.names_after-names.result c.get-log.result c.get-log_temp.result c.get-dump.result c.get-dump_temp.result c.put-4.new.self
+  chosen = chosen_made c.args.choice c.args.self.now c.names_after-names.result c.get-log.result c.get-log_temp.result c.get-dump.result c.get-dump_temp.result c.of.result
       c.names_after-names.ensures.names
       c.get-log.ensures.number
       c.get-log_temp.ensures.number
