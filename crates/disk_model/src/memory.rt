@@ -22,13 +22,14 @@ use core_types::{Blob, NoMemory};
 use deed::{Asked, Came, Deed};
 use record::Record;
 use std::alloc::Global;
+use std::fmt;
 use std::marker::Model;
 
 /// A directory in memory, which tells its content and each call that was made on it. Of its calls
 /// of `Dir`, counted from 1, those whose numbers are listed fail. A failed `append` leaves the
 /// first half of its bytes, rounded down, and any other failed call changes nothing. A call that
 /// finds no memory to be recorded fails too, and changes nothing.
-#[derive(Debug, Drop)]
+#[derive(Drop)]
 pub struct MemoryDir {
     alloc: Global,
     record: Record,
@@ -49,6 +50,15 @@ impl Model for MemoryDir {
       fails =
           d.fails.items;
     } };
+}
+
+impl fmt::Debug for MemoryDir {
+    fn fmt<W: fmt::Write>(&self, f: &mut fmt::Formatter<W>) -> fmt::Result {
+        f.debug_struct("MemoryDir")
+            .field("calls", &self.calls)
+            .field("faults", &self.faults)
+            .finish_non_exhaustive()
+    }
 }
 
 impl MemoryDir {

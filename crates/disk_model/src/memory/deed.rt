@@ -8,14 +8,14 @@ use crate::FileName;
 use core_types::Blob;
 
 /// A call that was made, and what came of it.
-#[derive(Debug, Drop)]
+#[derive(Drop)]
 pub(crate) struct Deed {
     pub(crate) asked: Asked,
     pub(crate) came: Came,
 }
 
 /// A call, as it was asked for.
-#[derive(Debug, Drop)]
+#[derive(Drop)]
 pub(crate) enum Asked {
     /// A read of a file.
     ReadAll(FileName),
@@ -34,7 +34,7 @@ pub(crate) enum Asked {
 }
 
 /// What came of a call.
-#[derive(Clone, Copy, Debug)]
+#[derive(Clone, Copy)]
 pub(crate) enum Came {
     /// It was done.
     Done,

@@ -18,7 +18,7 @@ use std::alloc::Global;
 use std::marker::Model;
 
 /// The files at first, the calls since, and what the files read as.
-#[derive(Debug, Drop)]
+#[derive(Drop)]
 pub(crate) struct Record {
     began: Contents,
     deeds: Vec<Deed>,
