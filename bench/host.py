@@ -7,30 +7,15 @@ more at run time than the program does, so the ratios count.
 
 import sys
 
-from tables import run
+from tables import SETS, run
 
-CODE = """
+CODE = (
+    """
 use crate::{DurableHost, HostFault};
 use core_types::{Args, Blob, Event, NoMemory, Sequence};
-use disk_model::MemoryDir;
-use std::alloc::Global;
-use std::hash::RandomState;
-use std::test::Fail;
-use std::time::{CpuClock, Duration};
-
-fn micros(rt: &HostRuntime, since: Duration) -> u64 {
-    let now = rt.thread_cpu_time().unwrap_or(since);
-    (now.as_micros() - since.as_micros()) as u64
-}
-
-fn set(alloc: Global, n: u64) -> Result<Args, NoMemory> {
-    let mut words = Sequence::new(alloc);
-    words.push(Blob::from_slice(alloc, b"SET")?)?;
-    words.push(Blob::from_slice(alloc, format!(in alloc; "key:{n}")?.as_bytes())?)?;
-    words.push(Blob::from_slice(alloc, b"1")?)?;
-    Ok(words)
-}
-
+use disk_model::MemoryDir;"""
+    + SETS
+    + """
 fn serve(alloc: Global, host: &mut DurableHost<MemoryDir>, requests: u64) -> Result<(), HostFault> {
     host.step(Event::Join(1))?;
     for n in 0..requests {
@@ -78,6 +63,7 @@ fn costs(rt: HostRuntime) -> Result<(), Fail> {
     Ok(())
 }
 """
+)
 
 if __name__ == "__main__":
     sys.exit(run("durable_host", CODE))

@@ -6,29 +6,14 @@ As bench/commands.py does: by `rt try`, which checks more at run time than the p
 
 import sys
 
-from tables import run
+from tables import SETS, run
 
-CODE = """
+CODE = (
+    """
 use crate::Core;
-use core_types::{Args, Blob, Event, NoMemory, Sequence};
-use std::alloc::Global;
-use std::hash::RandomState;
-use std::test::Fail;
-use std::time::{CpuClock, Duration};
-
-fn micros(rt: &HostRuntime, since: Duration) -> u64 {
-    let now = rt.thread_cpu_time().unwrap_or(since);
-    (now.as_micros() - since.as_micros()) as u64
-}
-
-fn set(alloc: Global, n: u64) -> Result<Args, NoMemory> {
-    let mut words = Sequence::new(alloc);
-    words.push(Blob::from_slice(alloc, b"SET")?)?;
-    words.push(Blob::from_slice(alloc, format!(in alloc; "key:{n}")?.as_bytes())?)?;
-    words.push(Blob::from_slice(alloc, b"1")?)?;
-    Ok(words)
-}
-
+use core_types::{Args, Blob, Event, NoMemory, Sequence};"""
+    + SETS
+    + """
 fn delete(alloc: Global, keys: u64) -> Result<Args, NoMemory> {
     let mut words = Sequence::new(alloc);
     words.push(Blob::from_slice(alloc, b"DEL")?)?;
@@ -65,6 +50,7 @@ fn costs(rt: HostRuntime) -> Result<(), Fail> {
     measure(&rt, 20_000)
 }
 """
+)
 
 if __name__ == "__main__":
     sys.exit(run("host_core", CODE))

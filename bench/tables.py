@@ -16,6 +16,27 @@ from pathlib import Path
 
 ROOT = Path(__file__).resolve().parent.parent
 
+# the part of a load that is the same over a machine and over a durable host
+SETS = """
+use std::alloc::Global;
+use std::hash::RandomState;
+use std::test::Fail;
+use std::time::{CpuClock, Duration};
+
+fn micros(rt: &HostRuntime, since: Duration) -> u64 {
+    let now = rt.thread_cpu_time().unwrap_or(since);
+    (now.as_micros() - since.as_micros()) as u64
+}
+
+fn set(alloc: Global, n: u64) -> Result<Args, NoMemory> {
+    let mut words = Sequence::new(alloc);
+    words.push(Blob::from_slice(alloc, b"SET")?)?;
+    words.push(Blob::from_slice(alloc, format!(in alloc; "key:{n}")?.as_bytes())?)?;
+    words.push(Blob::from_slice(alloc, b"1")?)?;
+    Ok(words)
+}
+"""
+
 CLIENTS = """
 use crate::Book;
 use core_types::{Blob, ClientState, NoMemory, Reply};

@@ -62,6 +62,7 @@ module _ {D : Type 0} (told : D → Told) (a b : Host D) (got : Option (List ℕ
     joined = record {
       kept = makes.kept;
       caught_up = record { runs = makes.runs; keeps = makes.keeps; one = one_still; taken = same ∙ caught.taken ∙ ap length (sym all_told); safely = safe_still };
+      safe = makes.safe;
       log = makes.log;
       crash = makes.crash;
       sent = subst (Appends got got) (sym silent) (Appends-nil got);
@@ -80,10 +81,11 @@ module _ {D : Type 0} (told : D → Told) (a b c : Host D) (events : List Event)
       record {
         kept = makes.kept ∙ ap (with_events gone) one.kept ∙ kept_twice a.kept events gone;
         keeps = makes.keeps;
+        safe = omega (arith, one.safe, makes.safe);
         log = subst (λ text. Become (with_appended Log text) (files_told (told a.dir)) (files_told (told c.dir)))
             (ap (λ state. writes (state_now a.kept) events ++ writes state gone) now ∙ sym (writes_more (state_now a.kept) events gone))
             (appended_twice (writes (state_now a.kept) events) (writes (state_now b.kept) gone) (files_told (told a.dir)) (files_told (told b.dir)) (files_told (told c.dir)) one.log makes.log);
-        crash = both_crash told a b c events gone one.kept one.crash makes.crash;
+        crash = both_crash told a b c events gone one.kept one.safe one.crash makes.crash;
         sent = subst (Appends got got') (sym (said_more (state_now a.kept) events gone ∙ ap (λ bytes. tells (state_now a.kept) events ++ bytes) silent ∙ append-nil (tells (state_now a.kept) events))) one.sent;
         count = length so_far;
         safely = all_told ∙ sym (ap (take (length so_far)) still.1 ∙ take-append_seam so_far still.0);

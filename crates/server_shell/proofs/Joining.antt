@@ -1,6 +1,6 @@
 -- Serves clauses made and broken of `serve_event`, and the clauses of `serve_request`: events one
 -- after the other.
-use Rattle.std.proofs.Common.{◌≡◌, refl, sym, ap, subst, ◌∙◌, ℕ, List, [], ◌++◌, append-nil, ◌+◌, length, length-append, take, take_all, Option, Some, None, arith, inl, inr}
+use Rattle.std.proofs.Common.{◌≡◌, ◌≤◌, refl, sym, ap, subst, ◌∙◌, ℕ, List, [], ◌++◌, append-nil, ◌+◌, length, length-append, take, take_all, Option, Some, None, arith, inl, inr}
 use Rattle.std.specs.Option.{option_map}
 use Rattle.std.proofs.lemmas.List.{append_assoc}
 use Rattle.std.proofs.Math.Seq.{take-append-add}
@@ -57,10 +57,16 @@ pub kept_twice : (kept : Kept) (first second : List Event) → with_events secon
 kept_twice kept first second = ap (λ events. record kept { events = events }) (append_assoc kept.events first second)
 
 -- images of fewer events are images of more
-pub wider : (kept : Kept) (first second : List Event) (old new : Told) → LeavesOnly old new (HoldsFrom (with_events first kept) 0) → LeavesOnly old new (HoldsFrom (with_events (first ++ second) kept) 0)
-wider kept first second old new only =
-    moments.weaker old new (HoldsFrom (with_events first kept) 0) (HoldsFrom (with_events (first ++ second) kept) 0) only
-    (λ image holds. subst (λ k. HoldsFrom k 0 image) (kept_twice kept first second) (holds_beyond (with_events first kept) second 0 0 image (omega arith) holds))
+pub wider : (kept : Kept) (first second : List Event) (safe : ℕ) (old new : Told) → LeavesOnly old new (HoldsFrom (with_events first kept) safe) → LeavesOnly old new (HoldsFrom (with_events (first ++ second) kept) safe)
+wider kept first second safe old new only =
+    moments.weaker old new (HoldsFrom (with_events first kept) safe) (HoldsFrom (with_events (first ++ second) kept) safe) only
+    (λ image holds. subst (λ k. HoldsFrom k safe image) (kept_twice kept first second) (holds_beyond (with_events first kept) second safe safe image (omega arith) holds))
+
+-- and those of more safe events are images of fewer
+pub fewer_safe : (kept : Kept) (less safe : ℕ) (old new : Told) → less ≤ safe → LeavesOnly old new (HoldsFrom kept safe) → LeavesOnly old new (HoldsFrom kept less)
+fewer_safe kept less safe old new few only =
+    moments.weaker old new (HoldsFrom kept safe) (HoldsFrom kept less) only
+    (λ image holds. record { count = holds.count; at_least = omega (arith, few, holds.at_least); at_most = holds.at_most; restarts = holds.restarts })
 
 module _ {D : Type 0} (told : D → Told) (a b c : Host D) (first : List Event) where
   -- what is logged behind events that are logged whole
@@ -82,12 +88,13 @@ module _ {D : Type 0} (told : D → Told) (a b c : Host D) (first : List Event) 
       }
 
 module _ {D : Type 0} (told : D → Told) (a b c : Host D) (first second : List Event) where
-  pub both_crash : b.kept ≡ with_events first a.kept → LeavesOnly (told a.dir) (told b.dir) (HoldsFrom (with_events first a.kept) 0) → LeavesOnly (told b.dir) (told c.dir) (HoldsFrom (with_events second b.kept) 0)
-      → LeavesOnly (told a.dir) (told c.dir) (HoldsFrom (with_events (first ++ second) a.kept) 0)
-  both_crash kept one other =
-      moments.further (told a.dir) (told b.dir) (told c.dir) (HoldsFrom (with_events (first ++ second) a.kept) 0)
-      (wider a.kept first second (told a.dir) (told b.dir) one)
-      (subst (λ k. LeavesOnly (told b.dir) (told c.dir) (HoldsFrom k 0)) (ap (with_events second) kept ∙ kept_twice a.kept first second) other)
+  pub both_crash : b.kept ≡ with_events first a.kept → a.safe ≤ b.safe → LeavesOnly (told a.dir) (told b.dir) (HoldsFrom (with_events first a.kept) a.safe)
+      → LeavesOnly (told b.dir) (told c.dir) (HoldsFrom (with_events second b.kept) b.safe) → LeavesOnly (told a.dir) (told c.dir) (HoldsFrom (with_events (first ++ second) a.kept) a.safe)
+  both_crash kept safe one other =
+      moments.further (told a.dir) (told b.dir) (told c.dir) (HoldsFrom (with_events (first ++ second) a.kept) a.safe)
+      (wider a.kept first second a.safe (told a.dir) (told b.dir) one)
+      (fewer_safe (with_events (first ++ second) a.kept) a.safe b.safe (told b.dir) (told c.dir) safe
+      (subst (λ k. LeavesOnly (told b.dir) (told c.dir) (HoldsFrom k b.safe)) (ap (with_events second) kept ∙ kept_twice a.kept first second) other))
 
   pub makes_both : Makes told first a b → Makes told second b c → Makes told (first ++ second) a c
   makes_both one other = record {
@@ -98,7 +105,7 @@ module _ {D : Type 0} (told : D → Told) (a b c : Host D) (first second : List 
     log = subst (λ text. Become (with_appended Log text) (files_told (told a.dir)) (files_told (told c.dir)))
         (ap (λ state. writes (state_now a.kept) first ++ writes state second) (ap state_now one.kept ∙ now_after a.kept first) ∙ sym (writes_more (state_now a.kept) first second))
         (appended_twice (writes (state_now a.kept) first) (writes (state_now b.kept) second) (files_told (told a.dir)) (files_told (told b.dir)) (files_told (told c.dir)) one.log other.log);
-    crash = both_crash one.kept one.crash other.crash;
+    crash = both_crash one.kept one.safe one.crash other.crash;
   }
 
   pub breaks_later : Makes told first a b → Breaks told second b c → Breaks told (first ++ second) a c
@@ -110,7 +117,7 @@ module _ {D : Type 0} (told : D → Told) (a b c : Host D) (first second : List 
     keeps = other.keeps;
     safe = omega (arith, one.safe, other.safe);
     logged = logged_later told a b c first other.made one.kept one.log other.logged;
-    crash = both_crash one.kept one.crash other.crash;
+    crash = both_crash one.kept one.safe one.crash other.crash;
   }
 
 -- what is logged whole
@@ -132,5 +139,5 @@ breaks_sooner told a b first second one = record {
   keeps = one.keeps;
   safe = one.safe;
   logged = one.logged;
-  crash = wider a.kept first second (told a.dir) (told b.dir) one.crash;
+  crash = wider a.kept first second a.safe (told a.dir) (told b.dir) one.crash;
 }

@@ -15,7 +15,6 @@ use Rattle.disk_model.specs.Runs.{GoesOnBy, LeavesOnly}
 use Rattle.disk_model.specs.Told.{Told, files_told}
 use Rattle.disk_model.specs.declared.file_name.FileName.TheVariants.{Log}
 use Rattle.disk_model.proofs.Failures.{append_failed, goes_reads, sync_stays, was_done, was_failed}
-use Rattle.disk_model.proofs.Moments as moments
 use Rattle.effect_log.specs.Unit.{unit}
 use Rattle.client_book.specs.Register.{Listed, freed, listed}
 use Rattle.client_book.specs.declared.client.Client.{Client}
@@ -33,7 +32,7 @@ use Rattle.durable_host.specs.declared.fault.HostFault.TheVariants as fault
 use Rattle.durable_host.proofs.Ends.{same_past}
 use Rattle.durable_host.proofs.Histories.{count_next, state_next}
 use Rattle.durable_host.proofs.Streams.{listed_freed}
-use Rattle.server_shell.specs.Making.{Breaks, Makes, taken_by, with_events}
+use Rattle.server_shell.specs.Making.{Breaks, Makes, taken_by}
 use Rattle.server_shell.specs.Stream.{StaysOn}
 use Rattle.server_shell.proofs.Joining.{nothing_appended}
 use Rattle.server_shell.proofs.Presence.{stays_there}
@@ -159,11 +158,6 @@ safe_rises event.RewriteEnd kept safe few = omega arith
 
 module _ {D : Type 0} (told : D → Told) (before after : Host D) (happens : Event) (ran : before.stopped ≡ None) (had : KeepsHistory told before) (keeps : KeepsHistory told after)
     (crash : LeavesOnly (told before.dir) (told after.dir) (HoldsFrom (with_event happens before.kept) before.safe)) where
-  any_safe : LeavesOnly (told before.dir) (told after.dir) (HoldsFrom (with_events (happens ∷ []) before.kept) 0)
-  any_safe =
-      moments.weaker (told before.dir) (told after.dir) (HoldsFrom (with_event happens before.kept) before.safe) (HoldsFrom (with_event happens before.kept) 0) crash
-      (λ image holds. record { count = holds.count; at_least = omega arith; at_most = holds.at_most; restarts = holds.restarts })
-
   module _ (answer : Answer) (happened : Happens told happens answer before after) where
     stays : StaysOn happens → IsSome (listed before.held.register 1) → IsSome (listed after.held.register 1)
     stays stays_on some =
@@ -188,7 +182,7 @@ module _ {D : Type 0} (told : D → Told) (before after : Host D) (happens : Eve
           (safe_rises happens after.kept before.safe (subst (λ k. before.safe ≤ event_count k) (sym happened.kept) (omega (arith, had.reached, count_next before.kept happens))));
       log = subst (λ text. Become (with_appended Log text) (files_told (told before.dir)) (files_told (told after.dir))) (sym (append-nil (unit (changes_by happens before.kept))))
           (log_after happens before.kept (told before.dir) (told after.dir) happened.calls);
-      crash = any_safe;
+      crash = crash;
     }
 
   -- none of it is kept, or all of it
@@ -201,7 +195,7 @@ module _ {D : Type 0} (told : D → Told) (before after : Host D) (happens : Eve
     keeps = keeps;
     safe = safe;
     logged = record { size = 0; log = log; all = inr (omega arith) };
-    crash = any_safe;
+    crash = crash;
   }
 
   all_kept : after.stopped ≡ Some cause.Dir → after.kept ≡ with_event happens before.kept → before.safe ≤ after.safe
@@ -218,7 +212,7 @@ module _ {D : Type 0} (told : D → Told) (before after : Host D) (happens : Eve
       log = subst (λ text. Become (with_appended Log (take front.0 text)) (files_told (told before.dir)) (files_told (told after.dir))) (sym (append-nil (unit (changes_by happens before.kept)))) front.1;
       all = inl stopped;
     };
-    crash = any_safe;
+    crash = crash;
   }
 
   if_begun : after.stopped ≡ Some cause.Dir → (effects : List Effect) → changes_by happens before.kept ≡ effects → after.kept ≡ kept_if_begun effects happens before.kept → before.safe ≤ after.safe

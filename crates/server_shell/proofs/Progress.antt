@@ -47,7 +47,7 @@ pub record Progress {D : Type 0} (told : D → Told) (before host : Host D) (str
 
 -- before the first piece
 pub nothing_wanted : WasWanted [] []
-nothing_wanted = record { before = []; piece = []; front = []; more = []; taken_are = refl; short = omega arith; requests_are = refl; wanted = inl refl }
+nothing_wanted = record { before = []; piece = []; front = []; more = []; taken_are = refl; short = omega arith; requests_are = refl; going = refl; wanted = inl refl }
 
 module _ {D : Type 0} (told : D → Told) (before : Host D) (left : Option (List ℕ)) (clock : ClockTold) (got : Option (List ℕ)) where
   abbrev At : Host D → Stream → ℕ → Option (List ℕ) → ClockTold → Option (List ℕ) → Type 0
@@ -83,8 +83,8 @@ module _ {D : Type 0} (told : D → Told) (before : Host D) (left : Option (List
     within = omega arith;
     wanted = nothing_wanted;
     serves = serves_nothing told before got caught
-        (moments.no_call (told before.dir) (told before.dir) (HoldsFrom (with_events [] before.kept) 0) refl
-        (λ image may. let holds = caught.keeps.images image may in holds_beyond before.kept [] 0 before.safe image (omega arith) holds));
+        (moments.no_call (told before.dir) (told before.dir) (HoldsFrom (with_events [] before.kept) before.safe) refl
+        (λ image may. let holds = caught.keeps.images image may in holds_beyond before.kept [] before.safe before.safe image (omega arith) holds));
   }
 
   module _ (host : Host D) (stream : Stream) (count : ℕ) (left' : Option (List ℕ)) (clock' : ClockTold) (got' : Option (List ℕ)) (p : At host stream count left' clock' got') where
@@ -133,7 +133,7 @@ module _ {D : Type 0} (told : D → Told) (before : Host D) (left : Option (List
     pub waited : (next : Stream) (waits : Waits stream next) (piece : List ℕ) → length piece ≤ 16384 → WasWanted ((waits_on next waits).taken ++ piece) (waits_on next waits).requests
     unfolding waits_on passes_on
     waited next waits piece few =
-        record { before = p.taken; piece = piece; front = p.requests; more = []; taken_are = refl; short = few; requests_are = sym (append-nil p.requests); wanted = inr (wants next waits).1 }
+        record { before = p.taken; piece = piece; front = p.requests; more = []; taken_are = refl; short = few; requests_are = sym (append-nil p.requests); going = p.going; wanted = inr (wants next waits).1 }
 
     pub room : stream.passed + length stream.rest ≡ length p.taken
     room = omega (arith, p.read.passed, ap length p.read.whole, length-append (bytes_of p.read.spans) stream.rest)
@@ -151,6 +151,7 @@ module _ {D : Type 0} (told : D → Told) (before : Host D) (left : Option (List
       taken_are = p.wanted.taken_are;
       short = p.wanted.short;
       requests_are = ap (λ all. all ++ words ∷ []) p.wanted.requests_are ∙ append_assoc p.wanted.front p.wanted.more (words ∷ []);
+      going = p.wanted.going;
       wanted = p.wanted.wanted;
     }
 
@@ -222,7 +223,7 @@ module _ {D : Type 0} (told : D → Told) (before : Host D) (left : Option (List
         goes_on = tt;
         done = served_events p.requests p.moments;
         within = request_events part.0 words;
-        stage = inr (record { front = p.requests; words = words; times = p.moments; moment = part.0; requests_are = refl; moments_are = refl; done_are = refl; within_are = refl });
+        stage = inr (record { front = p.requests; words = words; times = p.moments; moment = part.0; requests_are = refl; moments_are = refl; done_are = refl; within_are = refl; wanted = p.wanted });
         part = subst (λ done. ServesPart told done (request_events part.0 words) before after got got'') (append-nil (served_events p.requests p.moments))
             (serves_part told before host after (served_events p.requests p.moments) [] got got' got'' p.serves (request_events part.0 words) part.2);
       }

@@ -1,5 +1,5 @@
 -- Serves the clauses of `serve_request`: how each end of it leaves the host and the sink.
-use Rattle.std.proofs.Common.{◌≡◌, ◌≤◌, refl, sym, ap, ap₂, subst, ◌∙◌, ℕ, ◌+◌, ◌-◌, List, [], ◌∷◌, ◌++◌, length, take, drop, take_all, take-take, length-take, length-append, append-nil, Option, arith, inl, inr}
+use Rattle.std.proofs.Common.{◌≡◌, ◌≤◌, refl, sym, ap, ap₂, subst, ◌∙◌, ℕ, ◌+◌, ◌-◌, List, [], ◌∷◌, ◌++◌, length, take, drop, take_all, take-take, length-take, length-append, append-nil, Option, None, arith, inl, inr}
 use Rattle.std.specs.Io.KnownBytes.{Appends}
 use Rattle.std.proofs.KnownBytes.{Appends-nil}
 use Rattle.std.specs.List.{AllByRecursion}
@@ -108,6 +108,7 @@ module _ {D : Type 0} (told : D → Told) (events : List Event) (before after : 
         parts = breaks.parts;
         kept = breaks.kept;
         keeps = breaks.keeps;
+        safe = breaks.safe;
         logged = breaks.logged;
         crash = breaks.crash;
         bytes = [];
@@ -143,8 +144,19 @@ module _ {D : Type 0} (told : D → Told) (events : List Event) (before flushed 
       ap₂ (λ place bytes. take n (drop place bytes)) (same_taken ∙ caught.taken) all_flushed
       ∙ ap (take n) (drop-append_seam so_far_told new_bytes)
 
-  crash_same : (host : Host D) → host ≡ record flushed { held = host.held } → LeavesOnly (told before.dir) (told host.dir) (HoldsFrom (with_events events before.kept) 0)
-  crash_same host same = subst (λ dir. LeavesOnly (told before.dir) (told dir) (HoldsFrom (with_events events before.kept) 0)) (sym (ap (λ (it : Host D). it.dir) same)) makes.crash
+  -- what was handed out, all events are safe
+  pub handed_safe : (got got' : Option (List ℕ)) → HandsPart told flushed after got got' → (after.stopped ≡ None) × (after.safe ≡ event_count after.kept)
+  handed_safe got got' part =
+      let same = part.hands.same in (
+        ap (λ (it : Host D). it.stopped) same ∙ makes.runs,
+        ap (λ (it : Host D). it.safe) same ∙ safe ∙ sym (ap (λ (it : Host D). event_count it.kept) same),
+      )
+
+  crash_same : (host : Host D) → host ≡ record flushed { held = host.held } → LeavesOnly (told before.dir) (told host.dir) (HoldsFrom (with_events events before.kept) before.safe)
+  crash_same host same = subst (λ dir. LeavesOnly (told before.dir) (told dir) (HoldsFrom (with_events events before.kept) before.safe)) (sym (ap (λ (it : Host D). it.dir) same)) makes.crash
+
+  safe_same : (host : Host D) → host ≡ record flushed { held = host.held } → before.safe ≤ host.safe
+  safe_same host same = subst (λ n. before.safe ≤ n) (sym (ap (λ (it : Host D). it.safe) same)) makes.safe
 
   log_same : (host : Host D) → host ≡ record flushed { held = host.held } → Become (with_appended Log (writes (state_now before.kept) events)) (files_told (told before.dir)) (files_told (told host.dir))
   log_same host same = subst (λ dir. Become (with_appended Log (writes (state_now before.kept) events)) (files_told (told before.dir)) (files_told (told dir))) (sym (ap (λ (it : Host D). it.dir) same)) makes.log
@@ -169,6 +181,7 @@ module _ {D : Type 0} (told : D → Told) (events : List Event) (before flushed 
           safely = subst (λ (it : Host D). length (tells it.kept.opening it.kept.events) ≤ length (tells it.kept.opening (take it.safe it.kept.events))) (sym same)
               (omega (arith, ap (λ events. length (tells flushed.kept.opening events)) (take_all flushed.safe flushed.kept.events (omega (arith, safe)))));
         };
+        safe = safe_same after same;
         log = log_same after same;
         crash = crash_same after same;
         sent = subst (Appends got got') is all.sent;
@@ -185,6 +198,7 @@ module _ {D : Type 0} (told : D → Told) (events : List Event) (before flushed 
         parts = sym (append-nil events);
         kept = kept_same after same;
         keeps = part.hands.keeps;
+        safe = safe_same after same;
         logged = logged_whole told before after events (log_same after same);
         crash = crash_same after same;
         bytes = take part.count part.bytes;

@@ -26,10 +26,11 @@ use Rattle.server_shell.proofs.Joining.{appended_twice, both_crash, kept_twice, 
 -- ---- two servings, one after the other
 
 module _ {D : Type 0} (told : D → Told) where
-  pub serves_nothing : (host : Host D) (got : Option (List ℕ)) → IsCaughtUp told host → LeavesOnly (told host.dir) (told host.dir) (HoldsFrom (with_events [] host.kept) 0) → Serves told [] host host got got
+  pub serves_nothing : (host : Host D) (got : Option (List ℕ)) → IsCaughtUp told host → LeavesOnly (told host.dir) (told host.dir) (HoldsFrom (with_events [] host.kept) host.safe) → Serves told [] host host got got
   serves_nothing host got caught crash = record {
     kept = ap (λ events. record host.kept { events = events }) (sym (append-nil host.kept.events));
     caught_up = caught;
+    safe = omega arith;
     log = nothing_appended (files_told (told host.dir));
     crash = crash;
     sent = Appends-nil got;
@@ -46,10 +47,11 @@ module _ {D : Type 0} (told : D → Told) where
     serves_both other = record {
       kept = other.kept ∙ ap (with_events second) one.kept ∙ kept_twice a.kept first second;
       caught_up = other.caught_up;
+      safe = omega (arith, one.safe, other.safe);
       log = subst (λ text. Become (with_appended Log text) (files_told (told a.dir)) (files_told (told c.dir)))
           (ap (λ state. writes (state_now a.kept) first ++ writes state second) now_b ∙ sym (writes_more (state_now a.kept) first second))
           (appended_twice (writes (state_now a.kept) first) (writes (state_now b.kept) second) (files_told (told a.dir)) (files_told (told b.dir)) (files_told (told c.dir)) one.log other.log);
-      crash = both_crash told a b c first second one.kept one.crash other.crash;
+      crash = both_crash told a b c first second one.kept one.safe one.crash other.crash;
       sent = subst (Appends got got'') (ap (λ state. tells (state_now a.kept) first ++ tells state second) now_b ∙ sym (said_more (state_now a.kept) first second))
           (Appends-trans got got' got'' (tells (state_now a.kept) first) (tells (state_now b.kept) second) one.sent other.sent);
     }
@@ -67,10 +69,11 @@ module _ {D : Type 0} (told : D → Told) where
           kept = other.kept ∙ ap (with_events (second ++ other.made)) one.kept ∙ kept_twice a.kept first (second ++ other.made)
               ∙ ap (λ events. with_events events a.kept) (sym (append_assoc first second other.made));
           keeps = other.keeps;
+          safe = omega (arith, one.safe, other.safe);
           logged = subst (λ events. IsLogged told events a c) (sym (append_assoc first second other.made))
               (logged_later told a b c first (second ++ other.made) one.kept one.log other.logged);
-          crash = subst (λ events. LeavesOnly (told a.dir) (told c.dir) (HoldsFrom (with_events events a.kept) 0)) (sym (append_assoc first second within))
-              (both_crash told a b c first (second ++ within) one.kept one.crash other.crash);
+          crash = subst (λ events. LeavesOnly (told a.dir) (told c.dir) (HoldsFrom (with_events events a.kept) a.safe)) (sym (append_assoc first second within))
+              (both_crash told a b c first (second ++ within) one.kept one.safe one.crash other.crash);
           bytes = other.bytes;
           sent = subst (Appends got got'') bytes (Appends-trans got got' got'' front (back ++ other.bytes) one.sent other.sent);
           count = other.count;
@@ -90,8 +93,9 @@ module _ {D : Type 0} (told : D → Told) where
         parts = refl;
         kept = one.kept ∙ ap (λ all. with_events all a.kept) (sym (append-nil events));
         keeps = one.caught_up.keeps;
+        safe = one.safe;
         logged = subst (λ all. IsLogged told all a b) (sym (append-nil events)) (logged_whole told a b events one.log);
-        crash = subst (λ all. LeavesOnly (told a.dir) (told b.dir) (HoldsFrom (with_events all a.kept) 0)) (sym (append-nil events)) one.crash;
+        crash = subst (λ all. LeavesOnly (told a.dir) (told b.dir) (HoldsFrom (with_events all a.kept) a.safe)) (sym (append-nil events)) one.crash;
         bytes = [];
         sent = subst (Appends got got') (sym (append-nil text)) one.sent;
         count = safe.0;

@@ -63,10 +63,13 @@ IsServeStop status.WriteFault = ⊤
 IsServeStop other = IsHostStop other
 
 -- How a host stands after an end: it was stopped by a fault of the directory, by a counter that
--- stands at its end, and, where it met it itself, by want of memory; by nothing else.
+-- stands at its end, and, where it met it itself, by want of memory; by nothing else. Where the
+-- sink failed all events are safe.
 abbrev pub StandsAt : {D : Type 0} → Status → Host D → Type 0
 StandsAt status.DirFault host = host.stopped ≡ Some cause.Dir
 StandsAt status.NumbersSpent host =
     (host.stopped ≡ Some cause.NumbersSpent) × (event_count host.kept ≡ 2 ^ 64 - 1)
 StandsAt status.Memory host = (host.stopped ≡ None) ⊎ (host.stopped ≡ Some cause.Memory)
+StandsAt status.WriteFault host =
+    (host.stopped ≡ None) × (host.safe ≡ event_count host.kept)
 StandsAt other host = host.stopped ≡ None

@@ -36,7 +36,8 @@ abbrev pub open_to : {D : Type 0} → Host D → ℕ
 open_to host = may_of (listed host.held.register 1)
 
 -- The events were made, all of them: they are kept, the log goes on with what they wrote, and
--- whatever a crash leaves on the way restarts to the keys after some of all events.
+-- whatever a crash leaves on the way restarts to the keys after some of all events, those that were
+-- safe before among them.
 pub record Makes {D : Type 0} (told : D → Told) (events : List Event) (before after : Host D)
     : Type 0 where
   pub runs : after.stopped ≡ None
@@ -46,7 +47,7 @@ pub record Makes {D : Type 0} (told : D → Told) (events : List Event) (before 
   pub log : Become (with_appended Log (writes (state_now before.kept) events))
       (files_told (told before.dir)) (files_told (told after.dir))
   pub crash : LeavesOnly (told before.dir) (told after.dir)
-      (HoldsFrom (with_events events before.kept) 0)
+      (HoldsFrom (with_events events before.kept) before.safe)
 
 -- The log goes on with this many bytes of what events wrote: with all, or the directory failed.
 pub record IsLogged {D : Type 0} (told : D → Told) (events : List Event) (before after : Host D)
@@ -68,7 +69,7 @@ pub record Breaks {D : Type 0} (told : D → Told) (events : List Event) (before
   pub safe : before.safe ≤ after.safe
   pub logged : IsLogged told made before after
   pub crash : LeavesOnly (told before.dir) (told after.dir)
-      (HoldsFrom (with_events events before.kept) 0)
+      (HoldsFrom (with_events events before.kept) before.safe)
 
 -- what the safe events told client 1
 abbrev pub safe_bytes : {D : Type 0} → Host D → List ℕ

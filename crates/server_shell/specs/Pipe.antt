@@ -48,7 +48,8 @@ unread left clock sink sink' = record {
 }
 
 -- The last of the bytes were taken at once, 16,384 at the most, when more was wanted: those before
--- them end within a request, and their requests are the first of these; or there were none before.
+-- them end within a request, and their requests are the first of these, none of them QUIT; or there
+-- were none before.
 pub record WasWanted (taken : List ℕ) (requests : List (List (List ℕ))) : Type 0 where
   pub before : List ℕ
   pub piece : List ℕ
@@ -57,6 +58,7 @@ pub record WasWanted (taken : List ℕ) (requests : List (List (List ℕ))) : Ty
   pub taken_are : taken ≡ before ++ piece
   pub short : length piece ≤ 16384
   pub requests_are : requests ≡ front ++ more
+  pub going : list_any quits front ≡ false
   pub wanted : (before ≡ []) ⊎ ((count : ℕ) × Requests before front (End.Rest count))
 
 -- These bytes were taken of the source, 2^40 at the most, a front of them spells these requests, of
@@ -134,8 +136,9 @@ pub record ServesLimit (o : Outside) (R : List Event → Type 0) : Type 0 where
   pub each : length moments ≡ length requests
   pub serves : R (served_events requests moments)
 
--- of these requests the last is not served to its end
-pub record IsInLast (requests : List (List (List ℕ))) (moments : List ℕ)
+-- Of these requests the last is not served to its end. What was taken was wanted for those before
+-- it.
+pub record IsInLast (taken : List ℕ) (requests : List (List (List ℕ))) (moments : List ℕ)
     (done within : List Event) : Type 0 where
   pub front : List (List (List ℕ))
   pub words : List (List ℕ)
@@ -145,13 +148,15 @@ pub record IsInLast (requests : List (List (List ℕ))) (moments : List ℕ)
   pub moments_are : moments ≡ times ++ moment ∷ []
   pub done_are : done ≡ served_events front times
   pub within_are : within ≡ request_events moment words
+  pub wanted : WasWanted taken front
 
 -- how far serving came: all requests are served, and it stopped behind them or at a bad place
 -- there, or it stopped in the last one
-abbrev pub IsStage : List (List (List ℕ)) → List ℕ → End → (done within : List Event) → Type 0
-IsStage requests moments end done within =
+abbrev pub IsStage : List ℕ → List (List (List ℕ)) → List ℕ → End → (done within : List Event)
+    → Type 0
+IsStage taken requests moments end done within =
     ((done ≡ served_events requests moments) × ((within ≡ []) ⊎ (within ≡ end_events end)))
-    ⊎ IsInLast requests moments done within
+    ⊎ IsInLast taken requests moments done within
 
 -- Of these requests, and of a bad place behind them, all events were made but for the last ones,
 -- and then the run stopped.
@@ -164,7 +169,7 @@ pub record StopsWithin (o : Outside) (R : (done within : List Event) → Type 0)
   pub goes_on : GoesOnTo taken requests end
   pub done : List Event
   pub within : List Event
-  pub stage : IsStage requests moments end done within
+  pub stage : IsStage taken requests moments end done within
   pub part : R done within
 
 -- How serving ends, by its end: what is so of the events of a stream that came to its end, and of

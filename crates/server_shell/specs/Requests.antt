@@ -1,5 +1,5 @@
 -- What serving some events does: all of them, or some of them.
-use Rattle.std.specs.Prelude.{◌≡◌, ℕ, List, [], ◌∷◌, ◌++◌, take, Option}
+use Rattle.std.specs.Prelude.{◌≡◌, ◌≤◌, ℕ, List, [], ◌∷◌, ◌++◌, take, Option}
 use Rattle.std.specs.Io.KnownBytes.{Appends}
 use Rattle.core_types.specs.declared.event.Event.{Event}
 use Rattle.disk_model.specs.Files.{Become, with_appended}
@@ -14,15 +14,16 @@ use Rattle.server_shell.specs.Making.{IsLogged, safe_bytes, tells, with_events, 
 use Rattle.server_shell.specs.Stream.{IsCaughtUp}
 
 -- They were served: all of them were made, what they told client 1 was sent, and the log goes on
--- with what they wrote.
+-- with what they wrote. No safe event is lost, whenever a crash comes.
 pub record Serves {D : Type 0} (told : D → Told) (events : List Event) (before after : Host D)
     (got got' : Option (List ℕ)) : Type 0 where
   pub kept : after.kept ≡ with_events events before.kept
   pub caught_up : IsCaughtUp told after
+  pub safe : before.safe ≤ after.safe
   pub log : Become (with_appended Log (writes (state_now before.kept) events))
       (files_told (told before.dir)) (files_told (told after.dir))
   pub crash : LeavesOnly (told before.dir) (told after.dir)
-      (HoldsFrom (with_events events before.kept) 0)
+      (HoldsFrom (with_events events before.kept) before.safe)
   pub sent : Appends got got' (tells (state_now before.kept) events)
 
 -- They were served, and client 1 may be gone since: the safe events told it all that was sent.
@@ -30,10 +31,11 @@ pub record ServesToEnd {D : Type 0} (told : D → Told) (events : List Event) (b
     (got got' : Option (List ℕ)) : Type 0 where
   pub kept : after.kept ≡ with_events events before.kept
   pub keeps : KeepsHistory told after
+  pub safe : before.safe ≤ after.safe
   pub log : Become (with_appended Log (writes (state_now before.kept) events))
       (files_told (told before.dir)) (files_told (told after.dir))
   pub crash : LeavesOnly (told before.dir) (told after.dir)
-      (HoldsFrom (with_events events before.kept) 0)
+      (HoldsFrom (with_events events before.kept) before.safe)
   pub sent : Appends got got' (tells (state_now before.kept) events)
   pub count : ℕ
   pub safely : tells after.kept.opening after.kept.events ≡ take count (safe_bytes after)
@@ -47,9 +49,10 @@ pub record ServesPart {D : Type 0} (told : D → Told) (done within : List Event
   pub parts : within ≡ made ++ rest
   pub kept : after.kept ≡ with_events (done ++ made) before.kept
   pub keeps : KeepsHistory told after
+  pub safe : before.safe ≤ after.safe
   pub logged : IsLogged told (done ++ made) before after
   pub crash : LeavesOnly (told before.dir) (told after.dir)
-      (HoldsFrom (with_events (done ++ within) before.kept) 0)
+      (HoldsFrom (with_events (done ++ within) before.kept) before.safe)
   pub bytes : List ℕ
   pub sent : Appends got got' (tells (state_now before.kept) done ++ bytes)
   pub count : ℕ

@@ -1,7 +1,7 @@
 -- Serves the clauses of `refuse_stream`.
 use Rattle.std.proofs.Common.{◌∙◌}
 use Rattle.std.proofs.lemmas.Result.{err_from_is_err_and}
-use Rattle.server_shell.proofs.ServedRequests.{all_served, bad_breaks, bad_flush_breaks, no_refusal, part_broken, part_handed, refusal_made, refusal_stays}
+use Rattle.server_shell.proofs.ServedRequests.{all_served, bad_breaks, bad_flush_breaks, handed_safe, no_refusal, part_broken, part_handed, refusal_made, refusal_stays}
 use Rattle.server_shell.proofs.serving.refuse_stream.Goals as goal
 
 pub returns-in_err-serve_event-clause-part : goal.returns-in_err-serve_event-clause-part
@@ -22,6 +22,15 @@ returns-in_err-hand_out-clause-part g c offset =
     let f = c.in_ok-flush.ensures.flushed in
     let made = refusal_made g.D.Dir.told c.args.host.now c.serve_event.new.host c.flush.new.host c.args.kind c.in_ok-serve_event.ensures.made f.made in
     rw (p.1) (part_handed g.D.Dir.told _ c.args.host.now c.flush.new.host c.hand_out.new.host c.requires.caught_up (refusal_stays c.args.kind) made
+    (f.taken ∙ c.in_ok-serve_event.ensures.taken (no_refusal c.args.kind)) f.opened f.safe
+    (g.K.Sink.told c.args.sink.now).got (g.K.Sink.told c.hand_out.new.sink).got c.in_err-hand_out.ensures.part)
+
+pub returns-in_err-hand_out-clause-stands : goal.returns-in_err-hand_out-clause-stands
+returns-in_err-hand_out-clause-stands g c =
+    let p = err_from_is_err_and c.from_residual-in_err-hand_out.result c.from_residual-in_err-hand_out.ensures.1 in
+    let f = c.in_ok-flush.ensures.flushed in
+    let made = refusal_made g.D.Dir.told c.args.host.now c.serve_event.new.host c.flush.new.host c.args.kind c.in_ok-serve_event.ensures.made f.made in
+    rw (p.1, p.2) (handed_safe g.D.Dir.told _ c.args.host.now c.flush.new.host c.hand_out.new.host c.requires.caught_up (refusal_stays c.args.kind) made
     (f.taken ∙ c.in_ok-serve_event.ensures.taken (no_refusal c.args.kind)) f.opened f.safe
     (g.K.Sink.told c.args.sink.now).got (g.K.Sink.told c.hand_out.new.sink).got c.in_err-hand_out.ensures.part)
 

@@ -1,7 +1,7 @@
 -- Serves the clauses of `serve_request`.
 use Rattle.std.proofs.Common.{◌∙◌}
 use Rattle.std.proofs.lemmas.Result.{err_from_is_err_and}
-use Rattle.server_shell.proofs.ServedRequests.{all_served, arrival_breaks, flush_breaks, no_arrival, no_tick, part_broken, part_handed, request_made, request_stays, tick_breaks}
+use Rattle.server_shell.proofs.ServedRequests.{all_served, arrival_breaks, flush_breaks, handed_safe, no_arrival, no_tick, part_broken, part_handed, request_made, request_stays, tick_breaks}
 use Rattle.server_shell.proofs.serving.serve_request.Goals as goal
 
 pub returns-in_err-serve_event-clause-part : goal.returns-in_err-serve_event-clause-part
@@ -53,6 +53,17 @@ returns-in_err-hand_out-clause-part g c =
       part_handed g.D.Dir.told _ c.args.host.now c.flush.new.host c.hand_out.new.host c.requires.caught_up (request_stays moment c.args.words) made taken f.opened f.safe
           (g.K.Sink.told c.args.sink.now).got (g.K.Sink.told c.hand_out.new.sink).got c.in_err-hand_out.ensures.part,
     )
+
+pub returns-in_err-hand_out-clause-stands : goal.returns-in_err-hand_out-clause-stands
+returns-in_err-hand_out-clause-stands g c =
+    let p = err_from_is_err_and c.from_residual-in_err-hand_out.result c.from_residual-in_err-hand_out.ensures.1 in
+    let moment = c.now-moment.result in
+    let f = c.in_ok-flush.ensures.flushed in
+    let made = request_made g.D.Dir.told c.args.host.now c.serve_event.new.host c.serve_event-2.new.host c.flush.new.host moment c.args.words
+    c.in_ok-serve_event.ensures.made c.in_ok-serve_event-2.ensures.made f.made in
+    let taken = f.taken ∙ c.in_ok-serve_event-2.ensures.taken (no_arrival c.args.words) ∙ c.in_ok-serve_event.ensures.taken (no_tick moment) in
+    rw (p.1, p.2) (handed_safe g.D.Dir.told _ c.args.host.now c.flush.new.host c.hand_out.new.host c.requires.caught_up (request_stays moment c.args.words) made taken f.opened f.safe
+    (g.K.Sink.told c.args.sink.now).got (g.K.Sink.told c.hand_out.new.sink).got c.in_err-hand_out.ensures.part)
 
 pub returns-clause-served : goal.returns-clause-served
 returns-clause-served g c =
