@@ -20,6 +20,7 @@ use Rattle.server_shell.specs.Pipe.{Ends, Outside, PipeEnds, SourceEnds, StopsFi
 use Rattle.server_shell.specs.Requests.{Serves, ServesPart, ServesToEnd}
 use Rattle.server_shell.specs.Runs.{stream_events}
 use Rattle.server_shell.specs.Stream.{IsCaughtUp, IsOneStream}
+use Rattle.server_shell.specs.inner.Stopping.{StopsOver}
 use Rattle.server_shell.specs.declared.status.Status.{Status}
 use Rattle.server_shell.specs.declared.status.Status.TheVariants as status
 use Rattle.server_shell.proofs.ClientStream.{comer_told, goer_told, said_more}
@@ -193,19 +194,19 @@ module _ {D : Type 0} (told : D → Told) (a d : Host D) (o : Outside) where
   abbrev Within : Type 0
   Within = StopsWithin o (λ done within. ServesPart told (event.Join 1 ∷ done) within a d o.got o.got')
 
-  abbrev Stop : Type 0
-  Stop = StopsFirst told a d o ⊎ Within ⊎ StopsLast told a d o
+  abbrev Stop : Status → Type 0
+  Stop stop = StopsFirst stop told a d o ⊎ Within ⊎ StopsLast stop told a d o
 
 module _ {D : Type 0} (told : D → Told) (a b : Host D) (caught : IsCaughtUp told a) where
   -- the host stopped as client 1 came
-  pub stops_first : (o : Outside) (left : Option (List ℕ)) (clock : ClockTold) (got : Option (List ℕ)) → o ≡ record { left = left; left' = left; clock = clock; clock' = clock; got = got; got' = got } → (fault : Status) → IsHostStop fault → Breaks told came a b → PipeEnds fault told a b o
+  pub stops_first : (o : Outside) (left : Option (List ℕ)) (clock : ClockTold) (got : Option (List ℕ)) → o ≡ record { left = left; left' = left; clock = clock; clock' = clock; got = got; got' = got } → (fault : Status) → StopsOver (event.Join 1) fault → Breaks told came a b → PipeEnds fault told a b o
   stops_first o left clock got here fault is breaks = subst (PipeEnds fault told a b) (sym here) (at_first left clock got)
     where
       at_first : (left : Option (List ℕ)) (clock : ClockTold) (got : Option (List ℕ)) → PipeEnds fault told a b (record { left = left; left' = left; clock = clock; clock' = clock; got = got; got' = got })
       at_first left clock got =
           let here : Outside = record { left = left; left' = left; clock = clock; clock' = clock; got = got; got' = got } in
-          host_stops here (Whole told a b here) (Going told a b here) (Stop told a b here) fault is
-          (inl (record { left = refl; clock = refl; part = part_broken told came a b got caught breaks }))
+          host_stops here (Whole told a b here) (Going told a b here) (Stop told a b here fault) fault is.host
+          (inl (record { own = is.own tt; left = refl; clock = refl; part = part_broken told came a b got caught breaks }))
 
 module _ {D : Type 0} (told : D → Told) (a b c : Host D) (o : Outside) (come : Serves told came a b o.got o.got) (end : Status) (ends : SourceEnds end told b c o) where
   abbrev Source : List Event → Type 0
@@ -220,7 +221,7 @@ module _ {D : Type 0} (told : D → Told) (a b c : Host D) (o : Outside) (come :
   -- client 1 stays
   pub stays_behind : is_over end ≡ false → PipeEnds end told a c o
   stays_behind over =
-      goes_on_as o Source (Going told a c o) Source (Whole told a c o) SourceStop (Stop told a c o) behind
+      goes_on_as o Source (Going told a c o) Source (Whole told a c o) SourceStop (Stop told a c o end) behind
       (λ stops. inr (inl (within_as o (λ done within. ServesPart told done within b c o.got o.got') (λ done within. ServesPart told (event.Join 1 ∷ done) within a c o.got o.got')
       (λ done within part. serves_part told a b c came done o.got o.got o.got' come within part) stops)))
       end over ends
@@ -229,14 +230,15 @@ module _ {D : Type 0} (told : D → Told) (a b c : Host D) (o : Outside) (come :
     -- it went
     pub goes_behind : Makes told gone c d → PipeEnds end told a d o
     goes_behind makes =
-        over_as o Source (Whole told a d o) Source (Going told a d o) SourceStop (Stop told a d o)
+        over_as o Source (Whole told a d o) Source (Going told a d o) SourceStop (Stop told a d o end)
         (λ events served. went told a c d (event.Join 1 ∷ events) o.got o.got' (behind events served) makes) end over ends
 
     -- the host stopped over it
-    pub stops_behind : (fault : Status) → IsHostStop fault → Breaks told gone c d → PipeEnds fault told a d o
+    pub stops_behind : (fault : Status) → StopsOver (event.Gone 1) fault → Breaks told gone c d → PipeEnds fault told a d o
     stops_behind fault is breaks =
-        host_stops o (Whole told a d o) (Going told a d o) (Stop told a d o) fault is
+        host_stops o (Whole told a d o) (Going told a d o) (Stop told a d o fault) fault is.host
         (inr (inr (record {
+          own = is.own tt;
           end = end;
           over = over;
           stream = over_as o Source (λ events. ServesPart told (event.Join 1 ∷ events) gone a d o.got o.got') Source (λ events. ⊥) SourceStop ⊥

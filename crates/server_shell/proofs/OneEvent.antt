@@ -1,5 +1,5 @@
 -- Serves clauses made and broken of `serve_event`: one event of a host that goes on, or stops.
-use Rattle.std.proofs.Common.{◌≡◌, ◌≤◌, refl, sym, ap, subst, ◌∙◌, ℕ, List, [], ◌∷◌, append-nil, Option, Some, None, IsSome, IfSome, take, arith, inl, inr}
+use Rattle.std.proofs.Common.{◌≡◌, ◌≤◌, refl, sym, ap, subst, ◌∙◌, ℕ, Bool, true, false, if◌then◌else◌, nat_le, List, [], ◌∷◌, append-nil, Option, Some, None, IsSome, IfSome, take, arith, inl, inr}
 use Rattle.std.specs.Option.{option_map}
 use Rattle.std.proofs.lemmas.Bool.{false≢true}
 use Rattle.std.proofs.Math.Seq.{take-nil}
@@ -18,9 +18,10 @@ use Rattle.disk_model.proofs.Failures.{append_failed, goes_reads, sync_stays, wa
 use Rattle.effect_log.specs.Unit.{unit}
 use Rattle.client_book.specs.Register.{Listed, freed, listed}
 use Rattle.client_book.specs.declared.client.Client.{Client}
-use Rattle.host_core.specs.Clients.{client_at}
+use Rattle.host_core.specs.Clients.{client_at, with_new}
+use Rattle.host_core.specs.Events.{client_goes}
 use Rattle.host_core.specs.Core.{Held, state_of}
-use Rattle.host_core.specs.State.{State}
+use Rattle.host_core.specs.State.{State, becomes, stays as nothing_done}
 use Rattle.host_core.proofs.Rolls.{roll_at}
 use Rattle.durable_host.specs.Crash.{HoldsFrom}
 use Rattle.durable_host.specs.Host.{Host, KeepsHistory}
@@ -32,7 +33,9 @@ use Rattle.durable_host.specs.declared.fault.HostFault.TheVariants as fault
 use Rattle.durable_host.proofs.Ends.{same_past}
 use Rattle.durable_host.proofs.Histories.{count_next, state_next}
 use Rattle.durable_host.proofs.Streams.{listed_freed}
+use Rattle.server_shell.specs.Faults.{status_of_fault}
 use Rattle.server_shell.specs.Making.{Breaks, Makes, taken_by}
+use Rattle.server_shell.specs.inner.Stopping.{AsksNothing, StopsOver}
 use Rattle.server_shell.specs.Stream.{StaysOn}
 use Rattle.server_shell.proofs.Joining.{nothing_appended}
 use Rattle.server_shell.proofs.Presence.{stays_there}
@@ -154,6 +157,34 @@ safe_rises event.RewriteBegin kept safe few = omega arith
 safe_rises event.RewriteStep kept safe few = omega arith
 safe_rises event.RewriteEnd kept safe few = omega arith
 
+-- ---- what asks nothing of the directory
+
+coming : (t : Bool) (refusal : Answer) (state next : State) → (if t then nothing_done refusal state else becomes next).effects ≡ []
+coming true refusal state next = refl
+coming false refusal state next = refl
+
+going : (c : ℕ) (o : Option Client) (state : State) → (client_goes c o state).effects ≡ []
+going c None state = refl
+going c (Some client) state = refl
+
+-- a client's coming and going ask nothing of the directory, so it can't fail
+no_call : (happens : Event) (kept : Kept) (old new : Told) → AsksNothing happens → FailsAt happens (changes_by happens kept) old new → ⊥
+no_call (event.Join c) kept old new silent fails =
+    let state = state_now kept in
+    fails.some (ap unit (coming (nat_le c state.clients.last) _ state (record state { clients = with_new c state.clients })))
+no_call (event.Gone c) kept old new silent fails =
+    let state = state_now kept in fails.some (ap unit (going c (client_at state.clients c) state))
+no_call event.Flush kept old new silent fails = absurd silent
+no_call (event.Arrive c words) kept old new silent fails = absurd silent
+no_call (event.Malformed c kind) kept old new silent fails = absurd silent
+no_call (event.Unblock t p) kept old new silent fails = absurd silent
+no_call event.Pump kept old new silent fails = absurd silent
+no_call (event.Tick n) kept old new silent fails = absurd silent
+no_call (event.Section m o) kept old new silent fails = absurd silent
+no_call event.RewriteBegin kept old new silent fails = absurd silent
+no_call event.RewriteStep kept old new silent fails = absurd silent
+no_call event.RewriteEnd kept old new silent fails = absurd silent
+
 -- ---- the event
 
 module _ {D : Type 0} (told : D → Told) (before after : Host D) (happens : Event) (ran : before.stopped ≡ None) (had : KeepsHistory told before) (keeps : KeepsHistory told after)
@@ -224,6 +255,12 @@ module _ {D : Type 0} (told : D → Told) (before after : Host D) (happens : Eve
 
   same_dir : after.dir ≡ before.dir → Become (with_appended Log []) (files_told (told before.dir)) (files_told (told after.dir))
   same_dir same = subst (λ dir. Become (with_appended Log []) (files_told (told before.dir)) (files_told (told dir))) (sym same) (nothing_appended (files_told (told before.dir)))
+
+  pub why_one : (why : HostFault) → Stops told why happens before after → StopsOver happens (status_of_fault why)
+  why_one fault.Dir stops = record { host = tt; own = λ silent. absurd (no_call happens before.kept (told before.dir) (told after.dir) silent stops.fails) }
+  why_one fault.Memory stops = record { host = tt; own = λ silent. tt }
+  why_one fault.NumbersSpent stops = record { host = tt; own = λ silent. tt }
+  why_one (fault.Stopped why) stops = absurd (none-some why (sym ran ∙ stops.0))
 
   pub broken_one : (why : HostFault) → Stops told why happens before after → Breaks told (happens ∷ []) before after
   broken_one fault.Dir stops =

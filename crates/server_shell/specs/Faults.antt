@@ -58,6 +58,12 @@ IsHostStop status.Memory = ⊤
 IsHostStop status.NumbersSpent = ⊤
 IsHostStop other = ⊥
 
+-- and one that it leads to where it asks nothing of its directory
+abbrev pub IsOwnStop : Status → Type 0
+IsOwnStop status.Memory = ⊤
+IsOwnStop status.NumbersSpent = ⊤
+IsOwnStop other = ⊥
+
 abbrev pub IsServeStop : Status → Type 0
 IsServeStop status.WriteFault = ⊤
 IsServeStop other = IsHostStop other

@@ -10,6 +10,7 @@ use Rattle.io_edges.specs.Told.{ClockTold, Gave, SinkTold, SourceTold}
 use Rattle.resp_codec.specs.Requests.{End, IsReadAs, Requests, Served, quits, up_to_quit}
 use Rattle.resp_codec.specs.Stream.{Stream}
 use Rattle.durable_host.specs.Host.{Host}
+use Rattle.server_shell.specs.Faults.{IsOwnStop}
 use Rattle.server_shell.specs.Requests.{Serves, ServesPart, ServesToEnd}
 use Rattle.server_shell.specs.Runs.{end_events, request_events, served_events, stream_events}
 use Rattle.server_shell.specs.declared.status.Status.{Status}
@@ -201,16 +202,19 @@ SourceEnds end told before after o =
     (λ events. Serves told events before after o.got o.got')
     (StopsWithin o (λ done within. ServesPart told done within before after o.got o.got'))
 
--- The run stopped as client 1 came, and nothing was read.
-pub record StopsFirst {D : Type 0} (told : D → Told) (before after : Host D) (o : Outside)
-    : Type 0 where
+-- The run stopped as client 1 came, and nothing was read. It asks nothing of the directory.
+pub record StopsFirst {D : Type 0} (stop : Status) (told : D → Told) (before after : Host D)
+    (o : Outside) : Type 0 where
+  pub own : IsOwnStop stop
   pub left : o.left' ≡ o.left
   pub clock : o.clock' ≡ o.clock
   pub part : ServesPart told [] (event.Join 1 ∷ []) before after o.got o.got'
 
--- The stream came to its end, and the run stopped as client 1 went.
-pub record StopsLast {D : Type 0} (told : D → Told) (before after : Host D) (o : Outside)
-    : Type 0 where
+-- The stream came to its end, and the run stopped as client 1 went, which asks nothing of the
+-- directory.
+pub record StopsLast {D : Type 0} (stop : Status) (told : D → Told) (before after : Host D)
+    (o : Outside) : Type 0 where
+  pub own : IsOwnStop stop
   pub end : Status
   pub over : is_over end ≡ true
   pub stream : Ends end o
@@ -222,7 +226,7 @@ abbrev pub PipeEnds : {D : Type 0} → Status → (D → Told) → Host D → Ho
 PipeEnds end told before after o =
     Ends end o (λ events. ServesToEnd told (stream_events events) before after o.got o.got')
     (λ events. Serves told (event.Join 1 ∷ events) before after o.got o.got')
-    (StopsFirst told before after o
+    (StopsFirst end told before after o
     ⊎ StopsWithin o
     (λ done within. ServesPart told (event.Join 1 ∷ done) within before after o.got o.got')
-    ⊎ StopsLast told before after o)
+    ⊎ StopsLast end told before after o)

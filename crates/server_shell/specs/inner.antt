@@ -2,3 +2,4 @@
 pub mod Handing
 pub mod Flushing
 pub mod Taking
+pub mod Stopping

@@ -12,6 +12,7 @@ ghost use Rattle.server_shell.specs.Requests.{AtMoment, Serves, ServesPart};
 ghost use Rattle.server_shell.specs.Runs.{end_events, request_events};
 ghost use Rattle.server_shell.specs.Stream.{IsCaughtUp, IsOneStream, StaysOn};
 ghost use Rattle.server_shell.specs.inner.Flushing.{Flushes};
+ghost use Rattle.server_shell.specs.inner.Stopping.{StopsOver};
 
 use crate::handing::hand_out;
 use crate::status::Status;
@@ -82,7 +83,7 @@ pub(crate) fn serve_event<D: Dir>(host: &mut DurableHost<D>, event: Event) -> Re
     ensures broken { OnErr result (Breaks D.told (event ∷ []) host.old host.new) }
     ensures counts { (D.told host.new.dir).faults
         ≡ dir_faults (end_of result) (D.told host.old.dir).faults }
-    ensures why { OnErr result (IsHostStop (end_of result)) }
+    ensures why { OnErr result (StopsOver event (end_of result)) }
     ensures stands { StandsAt (end_of result) host.new }
 {
     host.step(event)?;
