@@ -64,6 +64,7 @@ module _ {D : Type 0} (told : D → Told) (a b : Host D) (got : Option (List ℕ
       kept = makes.kept;
       caught_up = record { runs = makes.runs; keeps = makes.keeps; one = one_still; taken = same ∙ caught.taken ∙ ap length (sym all_told); safely = safe_still };
       safe = makes.safe;
+      ending = makes.ending;
       log = makes.log;
       crash = makes.crash;
       sent = subst (Appends got got) (sym silent) (Appends-nil got);
@@ -83,6 +84,7 @@ module _ {D : Type 0} (told : D → Told) (a b c : Host D) (events : List Event)
         kept = makes.kept ∙ ap (with_events gone) one.kept ∙ kept_twice a.kept events gone;
         keeps = makes.keeps;
         safe = omega (arith, one.safe, makes.safe);
+        ending = makes.ending ∙ one.ending;
         log = subst (λ text. Become (with_appended Log text) (files_told (told a.dir)) (files_told (told c.dir)))
             (ap (λ state. writes (state_now a.kept) events ++ writes state gone) now ∙ sym (writes_more (state_now a.kept) events gone))
             (appended_twice (writes (state_now a.kept) events) (writes (state_now b.kept) gone) (files_told (told a.dir)) (files_told (told b.dir)) (files_told (told c.dir)) one.log makes.log);

@@ -102,6 +102,7 @@ module _ {D : Type 0} (told : D → Told) (a b c : Host D) (first second : List 
     kept = other.kept ∙ ap (with_events second) one.kept ∙ kept_twice a.kept first second;
     keeps = other.keeps;
     safe = omega (arith, one.safe, other.safe);
+    ending = other.ending ∙ one.ending;
     log = subst (λ text. Become (with_appended Log text) (files_told (told a.dir)) (files_told (told c.dir)))
         (ap (λ state. writes (state_now a.kept) first ++ writes state second) (ap state_now one.kept ∙ now_after a.kept first) ∙ sym (writes_more (state_now a.kept) first second))
         (appended_twice (writes (state_now a.kept) first) (writes (state_now b.kept) second) (files_told (told a.dir)) (files_told (told b.dir)) (files_told (told c.dir)) one.log other.log);
@@ -116,6 +117,7 @@ module _ {D : Type 0} (told : D → Told) (a b c : Host D) (first second : List 
     kept = other.kept ∙ ap (with_events other.made) one.kept ∙ kept_twice a.kept first other.made;
     keeps = other.keeps;
     safe = omega (arith, one.safe, other.safe);
+    ending = other.ending ∙ one.ending;
     logged = logged_later told a b c first other.made one.kept one.log other.logged;
     crash = both_crash one.kept one.safe one.crash other.crash;
   }
@@ -138,6 +140,7 @@ breaks_sooner told a b first second one = record {
   kept = one.kept;
   keeps = one.keeps;
   safe = one.safe;
+  ending = one.ending;
   logged = one.logged;
   crash = wider a.kept first second a.safe (told a.dir) (told b.dir) one.crash;
 }

@@ -214,30 +214,33 @@ module _ {D : Type 0} (told : D → Told) (before after : Host D) (happens : Eve
       log = subst (λ text. Become (with_appended Log text) (files_told (told before.dir)) (files_told (told after.dir))) (sym (append-nil (unit (changes_by happens before.kept))))
           (log_after happens before.kept (told before.dir) (told after.dir) happened.calls);
       crash = crash;
+      ending = happened.ending;
     }
 
   -- none of it is kept, or all of it
-  nothing_kept : after.kept ≡ before.kept → before.safe ≤ after.safe → Become (with_appended Log []) (files_told (told before.dir)) (files_told (told after.dir)) → Breaks told (happens ∷ []) before after
-  nothing_kept kept safe log = record {
+  nothing_kept : after.ending ≡ before.ending → after.kept ≡ before.kept → before.safe ≤ after.safe → Become (with_appended Log []) (files_told (told before.dir)) (files_told (told after.dir)) → Breaks told (happens ∷ []) before after
+  nothing_kept ending kept safe log = record {
     made = [];
     rest = happens ∷ [];
     parts = refl;
     kept = kept ∙ sym (ap (λ events. record before.kept { events = events }) (append-nil before.kept.events));
     keeps = keeps;
     safe = safe;
+    ending = ending;
     logged = record { size = 0; log = log; all = inr (omega arith) };
     crash = crash;
   }
 
-  all_kept : after.stopped ≡ Some cause.Dir → after.kept ≡ with_event happens before.kept → before.safe ≤ after.safe
+  all_kept : after.ending ≡ before.ending → after.stopped ≡ Some cause.Dir → after.kept ≡ with_event happens before.kept → before.safe ≤ after.safe
       → (size : ℕ) × Become (with_appended Log (take size (unit (changes_by happens before.kept)))) (files_told (told before.dir)) (files_told (told after.dir)) → Breaks told (happens ∷ []) before after
-  all_kept stopped kept safe front = record {
+  all_kept ending stopped kept safe front = record {
     made = happens ∷ [];
     rest = [];
     parts = refl;
     kept = kept;
     keeps = keeps;
     safe = safe;
+    ending = ending;
     logged = record {
       size = front.0;
       log = subst (λ text. Become (with_appended Log (take front.0 text)) (files_told (told before.dir)) (files_told (told after.dir))) (sym (append-nil (unit (changes_by happens before.kept)))) front.1;
@@ -246,12 +249,12 @@ module _ {D : Type 0} (told : D → Told) (before after : Host D) (happens : Eve
     crash = crash;
   }
 
-  if_begun : after.stopped ≡ Some cause.Dir → (effects : List Effect) → changes_by happens before.kept ≡ effects → after.kept ≡ kept_if_begun effects happens before.kept → before.safe ≤ after.safe
+  if_begun : after.ending ≡ before.ending → after.stopped ≡ Some cause.Dir → (effects : List Effect) → changes_by happens before.kept ≡ effects → after.kept ≡ kept_if_begun effects happens before.kept → before.safe ≤ after.safe
       → (size : ℕ) × Become (with_appended Log (take size (unit effects))) (files_told (told before.dir)) (files_told (told after.dir)) → Breaks told (happens ∷ []) before after
-  if_begun stopped [] are kept safe front =
-      nothing_kept kept safe (subst (λ text. Become (with_appended Log text) (files_told (told before.dir)) (files_told (told after.dir))) (take-nil front.0) front.1)
-  if_begun stopped (effect ∷ more) are kept safe front =
-      all_kept stopped kept safe (front.0, subst (λ effects. Become (with_appended Log (take front.0 (unit effects))) (files_told (told before.dir)) (files_told (told after.dir))) (sym are) front.1)
+  if_begun ending stopped [] are kept safe front =
+      nothing_kept ending kept safe (subst (λ text. Become (with_appended Log text) (files_told (told before.dir)) (files_told (told after.dir))) (take-nil front.0) front.1)
+  if_begun ending stopped (effect ∷ more) are kept safe front =
+      all_kept ending stopped kept safe (front.0, subst (λ effects. Become (with_appended Log (take front.0 (unit effects))) (files_told (told before.dir)) (files_told (told after.dir))) (sym are) front.1)
 
   same_dir : after.dir ≡ before.dir → Become (with_appended Log []) (files_told (told before.dir)) (files_told (told after.dir))
   same_dir same = subst (λ dir. Become (with_appended Log []) (files_told (told before.dir)) (files_told (told dir))) (sym same) (nothing_appended (files_told (told before.dir)))
@@ -264,8 +267,8 @@ module _ {D : Type 0} (told : D → Told) (before after : Host D) (happens : Eve
 
   pub broken_one : (why : HostFault) → Stops told why happens before after → Breaks told (happens ∷ []) before after
   broken_one fault.Dir stops =
-      if_begun stops.stops.stops (changes_by happens before.kept) refl stops.kept (omega (arith, stops.stops.safe))
+      if_begun stops.stops.ending stops.stops.stops (changes_by happens before.kept) refl stops.kept (omega (arith, stops.stops.safe))
       (log_failed happens (changes_by happens before.kept) (told before.dir) (told after.dir) stops.fails)
-  broken_one fault.Memory stops = nothing_kept stops.kept (omega (arith, stops.stops.safe)) (same_dir stops.dir)
-  broken_one fault.NumbersSpent stops = nothing_kept stops.0.kept (omega (arith, stops.0.stops.safe)) (same_dir stops.0.dir)
+  broken_one fault.Memory stops = nothing_kept stops.stops.ending stops.kept (omega (arith, stops.stops.safe)) (same_dir stops.dir)
+  broken_one fault.NumbersSpent stops = nothing_kept stops.0.stops.ending stops.0.kept (omega (arith, stops.0.stops.safe)) (same_dir stops.0.dir)
   broken_one (fault.Stopped why) stops = absurd (none-some why (sym ran ∙ stops.0))

@@ -109,6 +109,7 @@ module _ {D : Type 0} (told : D → Told) (events : List Event) (before after : 
         kept = breaks.kept;
         keeps = breaks.keeps;
         safe = breaks.safe;
+        ending = breaks.ending;
         logged = breaks.logged;
         crash = breaks.crash;
         bytes = [];
@@ -182,6 +183,7 @@ module _ {D : Type 0} (told : D → Told) (events : List Event) (before flushed 
               (omega (arith, ap (λ events. length (tells flushed.kept.opening events)) (take_all flushed.safe flushed.kept.events (omega (arith, safe)))));
         };
         safe = safe_same after same;
+        ending = ap (λ (it : Host D). it.ending) same ∙ makes.ending;
         log = log_same after same;
         crash = crash_same after same;
         sent = subst (Appends got got') is all.sent;
@@ -199,6 +201,7 @@ module _ {D : Type 0} (told : D → Told) (events : List Event) (before flushed 
         kept = kept_same after same;
         keeps = part.hands.keeps;
         safe = safe_same after same;
+        ending = ap (λ (it : Host D). it.ending) same ∙ makes.ending;
         logged = logged_whole told before after events (log_same after same);
         crash = crash_same after same;
         bytes = take part.count part.bytes;

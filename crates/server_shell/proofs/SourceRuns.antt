@@ -31,6 +31,7 @@ module _ {D : Type 0} (told : D → Told) where
     kept = ap (λ events. record host.kept { events = events }) (sym (append-nil host.kept.events));
     caught_up = caught;
     safe = omega arith;
+    ending = refl;
     log = nothing_appended (files_told (told host.dir));
     crash = crash;
     sent = Appends-nil got;
@@ -48,6 +49,7 @@ module _ {D : Type 0} (told : D → Told) where
       kept = other.kept ∙ ap (with_events second) one.kept ∙ kept_twice a.kept first second;
       caught_up = other.caught_up;
       safe = omega (arith, one.safe, other.safe);
+      ending = other.ending ∙ one.ending;
       log = subst (λ text. Become (with_appended Log text) (files_told (told a.dir)) (files_told (told c.dir)))
           (ap (λ state. writes (state_now a.kept) first ++ writes state second) now_b ∙ sym (writes_more (state_now a.kept) first second))
           (appended_twice (writes (state_now a.kept) first) (writes (state_now b.kept) second) (files_told (told a.dir)) (files_told (told b.dir)) (files_told (told c.dir)) one.log other.log);
@@ -70,6 +72,7 @@ module _ {D : Type 0} (told : D → Told) where
               ∙ ap (λ events. with_events events a.kept) (sym (append_assoc first second other.made));
           keeps = other.keeps;
           safe = omega (arith, one.safe, other.safe);
+          ending = other.ending ∙ one.ending;
           logged = subst (λ events. IsLogged told events a c) (sym (append_assoc first second other.made))
               (logged_later told a b c first (second ++ other.made) one.kept one.log other.logged);
           crash = subst (λ events. LeavesOnly (told a.dir) (told c.dir) (HoldsFrom (with_events events a.kept) a.safe)) (sym (append_assoc first second within))
@@ -94,6 +97,7 @@ module _ {D : Type 0} (told : D → Told) where
         kept = one.kept ∙ ap (λ all. with_events all a.kept) (sym (append-nil events));
         keeps = one.caught_up.keeps;
         safe = one.safe;
+        ending = one.ending;
         logged = subst (λ all. IsLogged told all a b) (sym (append-nil events)) (logged_whole told a b events one.log);
         crash = subst (λ all. LeavesOnly (told a.dir) (told b.dir) (HoldsFrom (with_events all a.kept) a.safe)) (sym (append-nil events)) one.crash;
         bytes = [];

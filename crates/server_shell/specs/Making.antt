@@ -44,6 +44,7 @@ pub record Makes {D : Type 0} (told : D → Told) (events : List Event) (before 
   pub kept : after.kept ≡ with_events events before.kept
   pub keeps : KeepsHistory told after
   pub safe : before.safe ≤ after.safe
+  pub ending : after.ending ≡ before.ending
   pub log : Become (with_appended Log (writes (state_now before.kept) events))
       (files_told (told before.dir)) (files_told (told after.dir))
   pub crash : LeavesOnly (told before.dir) (told after.dir)
@@ -67,6 +68,7 @@ pub record Breaks {D : Type 0} (told : D → Told) (events : List Event) (before
   pub kept : after.kept ≡ with_events made before.kept
   pub keeps : KeepsHistory told after
   pub safe : before.safe ≤ after.safe
+  pub ending : after.ending ≡ before.ending
   pub logged : IsLogged told made before after
   pub crash : LeavesOnly (told before.dir) (told after.dir)
       (HoldsFrom (with_events events before.kept) before.safe)

@@ -20,6 +20,7 @@ pub record Serves {D : Type 0} (told : D → Told) (events : List Event) (before
   pub kept : after.kept ≡ with_events events before.kept
   pub caught_up : IsCaughtUp told after
   pub safe : before.safe ≤ after.safe
+  pub ending : after.ending ≡ before.ending
   pub log : Become (with_appended Log (writes (state_now before.kept) events))
       (files_told (told before.dir)) (files_told (told after.dir))
   pub crash : LeavesOnly (told before.dir) (told after.dir)
@@ -32,6 +33,7 @@ pub record ServesToEnd {D : Type 0} (told : D → Told) (events : List Event) (b
   pub kept : after.kept ≡ with_events events before.kept
   pub keeps : KeepsHistory told after
   pub safe : before.safe ≤ after.safe
+  pub ending : after.ending ≡ before.ending
   pub log : Become (with_appended Log (writes (state_now before.kept) events))
       (files_told (told before.dir)) (files_told (told after.dir))
   pub crash : LeavesOnly (told before.dir) (told after.dir)
@@ -50,6 +52,7 @@ pub record ServesPart {D : Type 0} (told : D → Told) (done within : List Event
   pub kept : after.kept ≡ with_events (done ++ made) before.kept
   pub keeps : KeepsHistory told after
   pub safe : before.safe ≤ after.safe
+  pub ending : after.ending ≡ before.ending
   pub logged : IsLogged told (done ++ made) before after
   pub crash : LeavesOnly (told before.dir) (told after.dir)
       (HoldsFrom (with_events (done ++ within) before.kept) before.safe)
