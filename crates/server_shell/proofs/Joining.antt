@@ -70,12 +70,12 @@ fewer_safe kept less safe old new few only =
 
 module _ {D : Type 0} (told : D → Told) (a b c : Host D) (first : List Event) where
   -- what is logged behind events that are logged whole
-  pub logged_later : (second : List Event) → b.kept ≡ with_events first a.kept → Become (with_appended Log (writes (state_now a.kept) first)) (files_told (told a.dir)) (files_told (told b.dir)) → IsLogged told second b c → IsLogged told (first ++ second) a c
-  logged_later second kept one other =
+  pub logged_later : (second all : List Event) → first ++ second ≡ all → b.kept ≡ with_events first a.kept → Become (with_appended Log (writes (state_now a.kept) first)) (files_told (told a.dir)) (files_told (told b.dir)) → IsLogged told second b c → IsLogged told all a c
+  logged_later second all are kept one other =
       let front = writes (state_now a.kept) first in
       let back = writes (state_now b.kept) second in
-      let both : front ++ back ≡ writes (state_now a.kept) (first ++ second) =
-      ap (λ state. front ++ writes state second) (ap state_now kept ∙ now_after a.kept first) ∙ sym (writes_more (state_now a.kept) first second) in
+      let both : front ++ back ≡ writes (state_now a.kept) all =
+      ap (λ state. front ++ writes state second) (ap state_now kept ∙ now_after a.kept first) ∙ sym (writes_more (state_now a.kept) first second) ∙ ap (writes (state_now a.kept)) are in
       record {
         size = length front + other.size;
         log = subst (λ text. Become (with_appended Log text) (files_told (told a.dir)) (files_told (told c.dir)))
@@ -86,6 +86,12 @@ module _ {D : Type 0} (told : D → Told) (a b c : Host D) (first : List Event) 
           | inr whole ↦ inr (omega (arith, whole, ap length both, length-append front back))
         ];
       }
+
+  pub later_size : (second all : List Event) (are : first ++ second ≡ all) (kept : b.kept ≡ with_events first a.kept)
+      (one : Become (with_appended Log (writes (state_now a.kept) first)) (files_told (told a.dir)) (files_told (told b.dir))) (other : IsLogged told second b c)
+      → (logged_later second all are kept one other).size ≡ length (writes (state_now a.kept) first) + other.size
+  unfolding logged_later
+  later_size second all are kept one other = refl
 
 module _ {D : Type 0} (told : D → Told) (a b c : Host D) (first second : List Event) where
   pub both_crash : b.kept ≡ with_events first a.kept → a.safe ≤ b.safe → LeavesOnly (told a.dir) (told b.dir) (HoldsFrom (with_events first a.kept) a.safe)
@@ -118,19 +124,25 @@ module _ {D : Type 0} (told : D → Told) (a b c : Host D) (first second : List 
     keeps = other.keeps;
     safe = omega (arith, one.safe, other.safe);
     ending = other.ending ∙ one.ending;
-    logged = logged_later told a b c first other.made one.kept one.log other.logged;
+    logged = logged_later told a b c first other.made (first ++ other.made) refl one.kept one.log other.logged;
     crash = both_crash one.kept one.safe one.crash other.crash;
   }
 
 -- what is logged whole
-pub logged_whole : {D : Type 0} (told : D → Told) (a b : Host D) (events : List Event) → Become (with_appended Log (writes (state_now a.kept) events)) (files_told (told a.dir)) (files_told (told b.dir)) → IsLogged told events a b
-logged_whole told a b events log =
+pub logged_whole : {D : Type 0} (told : D → Told) (a b : Host D) (events all : List Event) → events ≡ all → Become (with_appended Log (writes (state_now a.kept) events)) (files_told (told a.dir)) (files_told (told b.dir)) → IsLogged told all a b
+logged_whole told a b events all are log =
     let text = writes (state_now a.kept) events in
+    let same : text ≡ writes (state_now a.kept) all = ap (writes (state_now a.kept)) are in
     record {
       size = length text;
-      log = subst (λ bytes. Become (with_appended Log bytes) (files_told (told a.dir)) (files_told (told b.dir))) (sym (take_all (length text) text (omega arith))) log;
-      all = inr (omega arith);
+      log = subst (λ bytes. Become (with_appended Log bytes) (files_told (told a.dir)) (files_told (told b.dir))) (sym (take_all (length text) text (omega arith)) ∙ ap (take (length text)) same) log;
+      all = inr (omega (arith, ap length same));
     }
+
+pub whole_size : {D : Type 0} (told : D → Told) (a b : Host D) (events all : List Event) (are : events ≡ all)
+    (log : Become (with_appended Log (writes (state_now a.kept) events)) (files_told (told a.dir)) (files_told (told b.dir))) → (logged_whole told a b events all are log).size ≡ length (writes (state_now a.kept) events)
+unfolding logged_whole
+whole_size told a b events all are log = refl
 
 pub breaks_sooner : {D : Type 0} (told : D → Told) (a b : Host D) (first second : List Event) → Breaks told first a b → Breaks told (first ++ second) a b
 breaks_sooner told a b first second one = record {

@@ -111,6 +111,7 @@ module _ {D : Type 0} (told : D → Told) (events : List Event) (before after : 
         safe = breaks.safe;
         ending = breaks.ending;
         logged = breaks.logged;
+        whole = omega arith;
         crash = breaks.crash;
         bytes = [];
         sent = Appends-nil got;
@@ -202,7 +203,8 @@ module _ {D : Type 0} (told : D → Told) (events : List Event) (before flushed 
         keeps = part.hands.keeps;
         safe = safe_same after same;
         ending = ap (λ (it : Host D). it.ending) same ∙ makes.ending;
-        logged = logged_whole told before after events (log_same after same);
+        logged = logged_whole told before after events events refl (log_same after same);
+        whole = omega arith;
         crash = crash_same after same;
         bytes = take part.count part.bytes;
         sent = part.sent;

@@ -1,5 +1,5 @@
 -- Serves clause ends of `serve_source`: requests one after the other, and how their stream ends.
-use Rattle.std.proofs.Common.{◌≡◌, refl, sym, ap, subst, ◌∙◌, ℕ, Bool, true, false, ◌||◌, List, [], ◌∷◌, ◌++◌, length, take, append-nil, if◌then◌else◌, Option, arith}
+use Rattle.std.proofs.Common.{◌≡◌, refl, sym, ap, subst, ◌∙◌, ℕ, Bool, true, false, ◌||◌, List, [], ◌∷◌, ◌++◌, length, length-append, take, append-nil, if◌then◌else◌, Option, arith}
 use Rattle.std.specs.List.{list_any}
 use Rattle.std.specs.Io.KnownBytes.{Appends}
 use Rattle.std.proofs.KnownBytes.{Appends-nil, Appends-trans}
@@ -16,12 +16,12 @@ use Rattle.host_core.specs.Fold as fold
 use Rattle.durable_host.specs.Crash.{HoldsFrom}
 use Rattle.durable_host.specs.Host.{Host}
 use Rattle.durable_host.specs.Kept.{Kept, state_now}
-use Rattle.server_shell.specs.Making.{IsLogged, safe_bytes, tells, with_events, writes}
+use Rattle.server_shell.specs.Making.{safe_bytes, tells, with_events, writes}
 use Rattle.server_shell.specs.Requests.{Serves, ServesPart}
 use Rattle.server_shell.specs.Runs.{request_events, served_events}
 use Rattle.server_shell.specs.Stream.{IsCaughtUp}
 use Rattle.server_shell.proofs.ClientStream.{said_more}
-use Rattle.server_shell.proofs.Joining.{appended_twice, both_crash, kept_twice, logged_later, logged_whole, nothing_appended, now_after, writes_more}
+use Rattle.server_shell.proofs.Joining.{appended_twice, both_crash, kept_twice, later_size, logged_later, logged_whole, whole_size, nothing_appended, now_after, writes_more}
 
 -- ---- two servings, one after the other
 
@@ -73,8 +73,15 @@ module _ {D : Type 0} (told : D → Told) where
           keeps = other.keeps;
           safe = omega (arith, one.safe, other.safe);
           ending = other.ending ∙ one.ending;
-          logged = subst (λ events. IsLogged told events a c) (sym (append_assoc first second other.made))
-              (logged_later told a b c first (second ++ other.made) one.kept one.log other.logged);
+          logged = logged_later told a b c first (second ++ other.made) ((first ++ second) ++ other.made) (sym (append_assoc first second other.made)) one.kept one.log other.logged;
+          whole = omega (
+            arith,
+            other.whole,
+            later_size told a b c first (second ++ other.made) ((first ++ second) ++ other.made) (sym (append_assoc first second other.made)) one.kept one.log other.logged,
+            ap length (writes_more (state_now a.kept) first second),
+            ap (λ state. length (writes state second)) now_b,
+            length-append (writes (state_now a.kept) first) (writes (fold.after step (state_now a.kept) first) second),
+          );
           crash = subst (λ events. LeavesOnly (told a.dir) (told c.dir) (HoldsFrom (with_events events a.kept) a.safe)) (sym (append_assoc first second within))
               (both_crash told a b c first (second ++ within) one.kept one.safe one.crash other.crash);
           bytes = other.bytes;
@@ -98,7 +105,8 @@ module _ {D : Type 0} (told : D → Told) where
         keeps = one.caught_up.keeps;
         safe = one.safe;
         ending = one.ending;
-        logged = subst (λ all. IsLogged told all a b) (sym (append-nil events)) (logged_whole told a b events one.log);
+        logged = logged_whole told a b events (events ++ []) (sym (append-nil events)) one.log;
+        whole = omega (arith, whole_size told a b events (events ++ []) (sym (append-nil events)) one.log);
         crash = subst (λ all. LeavesOnly (told a.dir) (told b.dir) (HoldsFrom (with_events all a.kept) a.safe)) (sym (append-nil events)) one.crash;
         bytes = [];
         sent = subst (Appends got got') (sym (append-nil text)) one.sent;

@@ -1,5 +1,5 @@
 -- What serving some events does: all of them, or some of them.
-use Rattle.std.specs.Prelude.{◌≡◌, ◌≤◌, ℕ, List, [], ◌∷◌, ◌++◌, take, Option}
+use Rattle.std.specs.Prelude.{◌≡◌, ◌≤◌, ℕ, List, [], ◌∷◌, ◌++◌, length, take, Option}
 use Rattle.std.specs.Io.KnownBytes.{Appends}
 use Rattle.core_types.specs.declared.event.Event.{Event}
 use Rattle.disk_model.specs.Files.{Become, with_appended}
@@ -42,8 +42,9 @@ pub record ServesToEnd {D : Type 0} (told : D → Told) (events : List Event) (b
   pub count : ℕ
   pub safely : tells after.kept.opening after.kept.events ≡ take count (safe_bytes after)
 
--- The first events were served, and what they told was sent. Of those behind them some were made,
--- in order, and of what they told a front was sent. The safe events told all that was sent.
+-- The first events were served: what they wrote is in the log, and what they told was sent. Of
+-- those behind them some were made, in order, and of what they told a front was sent. The safe
+-- events told all that was sent.
 pub record ServesPart {D : Type 0} (told : D → Told) (done within : List Event)
     (before after : Host D) (got got' : Option (List ℕ)) : Type 0 where
   pub made : List Event
@@ -54,6 +55,7 @@ pub record ServesPart {D : Type 0} (told : D → Told) (done within : List Event
   pub safe : before.safe ≤ after.safe
   pub ending : after.ending ≡ before.ending
   pub logged : IsLogged told (done ++ made) before after
+  pub whole : length (writes (state_now before.kept) done) ≤ logged.size
   pub crash : LeavesOnly (told before.dir) (told after.dir)
       (HoldsFrom (with_events (done ++ within) before.kept) before.safe)
   pub bytes : List ℕ
