@@ -18,6 +18,8 @@
 #![tactic(auto)]
 
 mod process;
+#[cfg(test)]
+mod tests;
 
 use std::process::ExitCode;
 

@@ -1,5 +1,10 @@
 //! The process round the top call: its arguments, its standard streams, and its exit status.
 
+ghost use Rattle.std.specs.Prelude.{◌≡◌, ◌⊎◌, IfErr};
+ghost use Rattle.std.specs.Process.{exit_status};
+ghost use Rattle.server_shell.specs.Status.{code_of};
+ghost use Rattle.server_shell.specs.declared.status.Status.TheVariants as end;
+
 use core_types::NoMemory;
 use disk_model::RealDir;
 use io_edges::{RealClock, RealSink, RealSource};
@@ -47,7 +52,9 @@ fn run_held(rt: &HostRuntime) -> Status {
 }
 
 /// Says on standard error how the run ended, where it isn't done, and gives the exit status.
-pub fn report(rt: &HostRuntime, status: &Status) -> ExitCode {
+pub fn report(rt: &HostRuntime, status: &Status) -> ExitCode
+    ensures code { exit_status result ≡ code_of status.now }
+{
     if *status != Status::Done {
         // Where standard error is closed, the exit status still tells.
         let _ = eprintln!(rt; "modhost: {status}");
@@ -56,7 +63,9 @@ pub fn report(rt: &HostRuntime, status: &Status) -> ExitCode {
 }
 
 // The words after the program's name. Words that are no text are a faulty command line.
-fn arguments(rt: &HostRuntime) -> Result<Vec<String>, Status> {
+fn arguments(rt: &HostRuntime) -> Result<Vec<String>, Status>
+    ensures stop { IfErr result (λ why. (why ≡ end.Memory) ⊎ (why ≡ end.Usage 0)) }
+{
     match env::args(rt) {
         Ok(arguments) => Ok(arguments.skip(1).collect(rt.alloc())?),
         Err(error) if error.kind() == io::ErrorKind::OutOfMemory => Err(Status::Memory),
@@ -88,7 +97,9 @@ fn run_words(rt: &HostRuntime, words: &[&str]) -> Status {
 
 // The secret numbers that the hashing of names begins with. Where the system gives none, the run
 // ends as where it gives no file descriptor.
-fn hashing(rt: &HostRuntime) -> Result<RandomState, Status> {
+fn hashing(rt: &HostRuntime) -> Result<RandomState, Status>
+    ensures stop { IfErr result (λ why. (why ≡ end.Memory) ⊎ (why ≡ end.DirFault)) }
+{
     match RandomState::new(rt) {
         Ok(hashing) => Ok(hashing),
         Err(error) if error.kind() == io::ErrorKind::OutOfMemory => Err(Status::Memory),
