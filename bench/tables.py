@@ -102,7 +102,7 @@ fn costs(rt: HostRuntime) -> Result<(), Fail> {
 
 TICKETS = """
 use crate::Tickets;
-use core_types::Blob;
+use sequences::Blob;
 use std::alloc::Global;
 use std::test::Fail;
 use std::time::{CpuClock, Duration};
@@ -339,7 +339,10 @@ def run(crate, code):
     with tempfile.TemporaryDirectory() as folder:
         top = Path(folder)
         copied(crate, top)
-        (top / "crates" / crate / "src" / "tests.rt").write_text(code.lstrip())
+        source = top / "crates" / crate / "src"
+        (source / "tests.rt").write_text(code.lstrip())
+        with open(source / "lib.rt", "a") as lines:
+            lines.write("\n#[cfg(test)]\nmod tests;\n")
         done = subprocess.run(["rt", "try", "--test"], cwd=top / "crates" / crate, capture_output=True, text=True)
     return tell(crate, done.stdout + done.stderr)
 

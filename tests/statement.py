@@ -22,6 +22,7 @@ RELIED_ON = [
 HEAD = re.compile(r"^( *)(?:(?:abbrev|unfoldable|pub) )*(?:(?:record|data) )?([^\s:({]+)(?= *[:({]| *$)")
 OPENS = re.compile(r"^ *(?:abbrev|unfoldable|pub|record|data)\b|^ *[^\s:({]+ *(?:\{[^}]*\} *)?: ")
 USE = re.compile(r"^\s*(?:ghost |pub )*use (Rattle\.[\w.]+?)(?:\.\{([^}]*)\}|\s+as\s+(\w+))?;?\s*$")
+HANDED_ON = re.compile(r"^pub use (Rattle\.\w+\.specs\.[\w.]+)$", re.MULTILINE)
 WORD = re.compile(r"[^\s(){}\[\],;]+")
 
 
@@ -32,6 +33,11 @@ def modules():
         for path in sorted((crate / "specs").rglob("*.antt")):
             inner = ".".join(path.relative_to(crate / "specs").with_suffix("").parts)
             found[f"Rattle.{crate.name}.specs.{inner}"] = path
+    # a crate may hand on the definitions of one below it
+    for crate in sorted(CRATES.iterdir()):
+        lines = crate / "specs" / "Lib.antt"
+        for module in HANDED_ON.findall(lines.read_text(encoding="utf-8")) if lines.is_file() else []:
+            found[f"Rattle.{crate.name}.specs.{module.rsplit('.', 1)[1]}"] = found[module]
     return found
 
 
@@ -102,6 +108,8 @@ class Statement:
 
     def add(self, module, name):
         definitions = self.definitions(module)
+        if definitions and name not in definitions.blocks and name in definitions.names:
+            return self.add(*definitions.names[name])
         if definitions is None or name not in definitions.blocks:
             if module.startswith("Rattle.std"):
                 self.std.add(name)

@@ -5,7 +5,7 @@ ghost use Rattle.std.specs.FinSet as set;
 ghost use Rattle.blocked_tickets.specs.inner.Earliest.{IsEarliest};
 ghost use Rattle.blocked_tickets.specs.inner.Entering.{with_deadline, without_deadline};
 
-use core_types::NoMemory;
+use sequences::NoMemory;
 use std::alloc::Global;
 use std::collections::BTreeSet;
 use std::marker::Model;

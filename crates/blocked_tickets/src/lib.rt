@@ -4,7 +4,7 @@
 //! held, the list of those that were unblocked in the order of their unblocks, and the next number;
 //! each call is one step of it, and each refusal has its exact cause. A ticket is Waiting until its
 //! deadline or its client's end; it is held until it was unblocked and then closed. It stands on
-//! `core_types` alone. Every call is O(log n) in the tickets held: a ticket is found by its number,
+//! `sequences` alone. Every call is O(log n) in the tickets held: a ticket is found by its number,
 //! the Waiting one by its client, the due one by its deadline, the ready one at the front of its
 //! line. Closing another than the first ready ticket, and a copy of all, are linear. Only `admit`
 //! and `picture` take memory.
@@ -16,8 +16,6 @@ mod held;
 mod laws;
 mod ready_line;
 mod table;
-#[cfg(test)]
-mod tests;
 mod ticket;
 mod tickets;
 mod unblock_fault;

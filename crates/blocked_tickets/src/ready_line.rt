@@ -4,7 +4,7 @@ ghost use Rattle.std.specs.Prelude.{◌≡◌, ◌==◌, ◌+◌, ◌<◌, ◌�
 ghost use Rattle.std.specs.List.{IsDistinct};
 ghost use Rattle.std.specs.VecDeque.{deque_capacity};
 
-use core_types::NoMemory;
+use sequences::NoMemory;
 use std::alloc::Global;
 use std::collections::VecDeque;
 use std::marker::Model;

@@ -8,7 +8,7 @@ ghost use Rattle.blocked_tickets.specs.TicketTable.{with_changed};
 ghost use Rattle.blocked_tickets.specs.inner.Rewriting.{Rewrites};
 
 use crate::{Phase, Ticket};
-use core_types::{Blob, Duplicate, NoMemory};
+use sequences::{Blob, Duplicate, NoMemory};
 use std::alloc::Global;
 use std::collections::BTreeMap;
 use std::marker::Model;

@@ -3,7 +3,7 @@
 ghost use Rattle.std.specs.Prelude.{◌≡◌};
 ghost use Rattle.blocked_tickets.specs.Ticket.{new_ticket, open_deadline, waiter};
 
-use core_types::{Blob, Duplicate, NoMemory};
+use sequences::{Blob, Duplicate, NoMemory};
 use std::alloc::Global;
 
 /// Where a ticket stands.

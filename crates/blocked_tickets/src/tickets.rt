@@ -14,7 +14,7 @@ use crate::ready_line::ReadyLine;
 use crate::table::Table;
 use crate::waiters::Waiters;
 use crate::{AdmitFault, Held, Phase, Ticket, UnblockFault};
-use core_types::{Blob, NoMemory};
+use sequences::{Blob, NoMemory};
 use std::alloc::Global;
 use std::marker::Model;
 

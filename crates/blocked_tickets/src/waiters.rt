@@ -4,7 +4,7 @@ ghost use Rattle.std.specs.Prelude.{◌≡◌, OnOk, OnErr};
 ghost use Rattle.std.specs.FinMap as map;
 ghost use Rattle.blocked_tickets.specs.inner.Entering.{without_client};
 
-use core_types::NoMemory;
+use sequences::NoMemory;
 use std::alloc::Global;
 use std::collections::BTreeMap;
 use std::marker::Model;

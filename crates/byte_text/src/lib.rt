@@ -14,8 +14,6 @@ mod decimal;
 mod laws;
 mod name;
 mod number;
-#[cfg(test)]
-mod tests;
 
 pub use decimal::{Decimal, i64_text, u64_text};
 pub use laws::{decimals_are_canonical, decimals_are_short, names_by_bytes};

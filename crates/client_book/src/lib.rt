@@ -21,8 +21,6 @@ mod pending;
 mod queue;
 mod roll;
 mod table;
-#[cfg(test)]
-mod tests;
 mod watched;
 mod watchers;
 

@@ -11,8 +11,6 @@ mod owner;
 mod register_fault;
 mod registry;
 mod search;
-#[cfg(test)]
-mod tests;
 
 pub use owner::Owner;
 pub use register_fault::RegisterFault;

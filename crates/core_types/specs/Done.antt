@@ -1,7 +1,8 @@
 -- What a command on one key does: to its value, and beside it.
 use Rattle.std.proofs.Common.{inl, inr}
-use Rattle.std.specs.Prelude.{◌≡◌, ◌⊎◌, ⊤, ℕ, List, [], ◌∷◌, drop, slice_index_or, Option, Some, None}
+use Rattle.std.specs.Prelude.{◌≡◌, ◌⊎◌, ⊤, ℕ, List, [], ◌∷◌, drop, Option, Some, None}
 use Rattle.std.specs.Borrow.{MutBor}
+pub use Rattle.sequences.specs.Words.{word}
 use Rattle.core_types.specs.Refusals.{refused}
 use Rattle.core_types.specs.declared.effect.Effect.{Effect}
 use Rattle.core_types.specs.declared.note.Note.{Note}
@@ -79,10 +80,6 @@ module _ {B : Type 0} where
   option_left (inl _) = None
   option_left (inr (inl lent)) = Some lent.0.now
   option_left (inr (inr never)) = None
-
--- the word at this place, counted from 0, and behind the last word none
-unfoldable pub word : ℕ → List (List ℕ) → List ℕ
-word place words = slice_index_or words place []
 
 -- the words of the command itself, its name in upper case
 abbrev pub own_words : List ℕ → List (List ℕ) → Effect

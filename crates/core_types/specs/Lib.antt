@@ -2,7 +2,8 @@ pub mod Printable
 pub mod Several
 pub mod Parts
 pub mod Keys
-pub mod Causes
+pub use Rattle.sequences.specs.Causes
+pub use Rattle.sequences.specs.Words
 pub mod BadRequest
 pub mod Refusals
 pub mod Done

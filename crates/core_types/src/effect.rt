@@ -1,27 +1,10 @@
-//! Words: of a command, of a change to be done again, and of a module's answer to a note.
+//! Words of a change to be done again, and of a module's answer to a note.
 
 ghost use Rattle.std.specs.Prelude.{◌≡◌, ◌<◌, ◌++◌, [], ◌∷◌, length, IfOk, OnOk};
-ghost use Rattle.core_types.specs.Done.{own_words, word};
+ghost use Rattle.core_types.specs.Done.{own_words};
 
-use crate::{Blob, Duplicate, NoMemory, Sequence};
+use crate::{Args, Blob, Duplicate, NoMemory, Sequence};
 use std::alloc::Global;
-
-/// The words of one request: the name of a command and its arguments.
-pub type Args = Sequence<Blob>;
-
-impl Sequence<Blob> {
-    /// The word at a place, counted from 0.
-    #[tactic(auto, unfolding(crate::specs::Done::word))]
-    pub fn word(&self, place: usize) -> &[u8]
-        requires { place < length self.now }
-        ensures word { result.now ≡ word place self.now }
-    {
-        self.as_slice()[place].as_slice()
-    }
-}
-
-/// The words of commands, in order.
-pub type Commands = Sequence<Args>;
 
 /// One change of the keys, as the words of a command that makes it.
 #[derive(Debug, Drop)]

@@ -1,18 +1,16 @@
-//! What every crate shares: byte strings, lists, replies, effects, and the finite map of keys.
+//! What every crate shares: values, replies, effects, events, and the finite map of keys.
 //!
-//! A `Blob` is seen by contracts as its bytes, a `Sequence` as its items, a `Line` as its bytes
-//! (each of them printable), and `Replies` as a count and a flat list of parts, so that no type
-//! contains itself. Every call that takes memory answers `NoMemory` alone, and an `Err` leaves its
-//! object as it was. Appending is amortized O(1) an item; nothing else here costs more than the
-//! bytes it copies.
+//! A `Line` is seen by contracts as its bytes (each of them printable), and `Replies` as a count
+//! and a flat list of parts, so that no type contains itself. Every call that takes memory answers
+//! `NoMemory` alone, and an `Err` leaves its object as it was. Appending is amortized O(1) an item;
+//! nothing else here costs more than the bytes it copies. Byte strings and lists are those of
+//! `sequences`, and are handed on.
 #![tactic(auto)]
 
 mod bad_request;
-mod blob;
 mod client_state;
 mod command_spec;
 mod cut;
-mod duplicate;
 mod effect;
 mod event;
 mod field;
@@ -21,7 +19,6 @@ mod key_laws;
 mod line;
 mod list_body;
 mod load_fault;
-mod no_memory;
 mod note;
 mod order;
 mod outcome;
@@ -31,20 +28,15 @@ mod parts;
 mod refusal;
 mod replies;
 mod reply;
-mod sequence;
 mod stop;
 mod tagged;
-#[cfg(test)]
-mod tests;
 mod value;
 
 pub use bad_request::BadRequest;
-pub use blob::Blob;
 pub use client_state::ClientState;
 pub use command_spec::CommandSpec;
 pub use cut::{Cut, cut_range};
-pub use duplicate::Duplicate;
-pub use effect::{Args, Chore, Chores, Commands, Effect, Effects};
+pub use effect::{Chore, Chores, Effect, Effects};
 pub use event::{Answer, Event, Events};
 pub use field::{Field, Fields};
 pub use hash_body::HashBody;
@@ -52,7 +44,6 @@ pub use key_laws::{keys_by_key, keyspace_is_kept};
 pub use line::Line;
 pub use list_body::ListBody;
 pub use load_fault::{LoadFault, RdbCause};
-pub use no_memory::NoMemory;
 pub use note::{Note, NoteClass, Notes};
 pub use order::{Order, Orders};
 pub use outcome::{After, Outcome};
@@ -61,7 +52,7 @@ pub use part::Part;
 pub use refusal::{Refusal, invalid_expire, unknown_command, wrong_arity};
 pub use replies::Replies;
 pub use reply::Reply;
-pub use sequence::Sequence;
+pub use sequences::{Args, Blob, Commands, Duplicate, NoMemory, Sequence};
 pub use stop::{Cause, Stop};
 pub use tagged::{Items, Tagged};
 pub use value::{Kind, Value};

@@ -3,8 +3,8 @@
 ghost use Rattle.std.specs.Prelude.{◌≡◌, ◌+◌, ◌≤◌, ◌++◌, [], IfOk, OnOk, OnErr};
 
 use crate::parts::push_parts;
-use crate::sequence::duplicate_items;
 use crate::{NoMemory, Part, Reply};
+use sequences::duplicate_items;
 use std::alloc::Global;
 use std::marker::Model;
 

@@ -1,6 +1,6 @@
 -- What a directory in memory is seen as, and what a call makes of it.
 use Rattle.std.specs.Prelude.{◌≡◌, ◌⊎◌, ℕ, ◌/◌, List, [], length, Result, Ok, Err, Some, Contains}
-use Rattle.core_types.specs.Causes.{one_more}
+use Rattle.sequences.specs.Causes.{one_more}
 use Rattle.disk_model.specs.Files.{Files, no_files}
 use Rattle.disk_model.specs.Past.{Call, Outcome, Past, with_call}
 use Rattle.disk_model.specs.Told.{Told}

@@ -1,14 +1,14 @@
 //! A directory as the layers above see it.
 
 ghost use Rattle.std.specs.Prelude.{◌≡◌, [], IfOk, OnOk, OnErr, IfSome};
-ghost use Rattle.core_types.specs.Causes.{HasCause, HasCauseFor};
+ghost use Rattle.sequences.specs.Causes.{HasCause, HasCauseFor};
 ghost use Rattle.disk_model.specs.declared.dir.ReadAllStop.TheVariants as stops;
 ghost use Rattle.disk_model.specs.Files.{Files, file, with_file, with_appended, with_cut, with_moved, Become, Stay, IsThere, IsAtLeast, IsSmall};
 ghost use Rattle.disk_model.specs.Past.{Call, Outcome};
 ghost use Rattle.disk_model.specs.Told.{Told, files_told, Goes, Fails, Was};
 
 use crate::FileName;
-use core_types::{Blob, NoMemory};
+use sequences::{Blob, NoMemory};
 use std::alloc::Global;
 
 /// The directory failed, and counted it.

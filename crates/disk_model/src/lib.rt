@@ -22,8 +22,6 @@ mod file_name;
 mod laws;
 mod memory;
 mod real;
-#[cfg(test)]
-mod tests;
 
 pub use choice::Choice;
 pub use dir::{Dir, DirFault, ReadAllStop};

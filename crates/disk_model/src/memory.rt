@@ -2,7 +2,7 @@
 
 ghost use Rattle.std.specs.Prelude.{◌≡◌, ◌⊎◌, ◌≤◌, [], IfOk, OnOk, OnErr};
 ghost use Rattle.std.specs.Option.{option_copied};
-ghost use Rattle.core_types.specs.Causes.{HasCause, one_more};
+ghost use Rattle.sequences.specs.Causes.{HasCause, one_more};
 ghost use Rattle.disk_model.specs.Choices.{chosen};
 ghost use Rattle.disk_model.specs.Files.{no_files, file, with_file, HasFew};
 ghost use Rattle.disk_model.specs.Images.{Leaves};
@@ -18,9 +18,9 @@ mod disk;
 mod record;
 
 use crate::{Choice, Dir, DirFault, FileName, ReadAllStop};
-use core_types::{Blob, NoMemory};
 use deed::{Asked, Came, Deed};
 use record::Record;
+use sequences::{Blob, NoMemory};
 use std::alloc::Global;
 use std::fmt;
 use std::marker::Model;

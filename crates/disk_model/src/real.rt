@@ -2,7 +2,7 @@
 
 ghost use Rattle.std.specs.Prelude.{◌≡◌, ◌≤◌, ◌↔◌, ℕ, Ok, Err, None, IfOk, IsErr, IsErrAnd};
 ghost use Rattle.std.specs.IoError.{error_kind};
-ghost use Rattle.core_types.specs.Causes.{one_more, HasCause, HasCauseFor};
+ghost use Rattle.sequences.specs.Causes.{one_more, HasCause, HasCauseFor};
 ghost use Rattle.disk_model.specs.declared.dir.ReadAllStop.TheVariants as stops;
 ghost use Rattle.disk_model.specs.inner.RealFolder.{unlocked, or_here};
 
@@ -13,8 +13,8 @@ mod link;
 mod synced;
 
 use crate::{Dir, DirFault, FileName, ReadAllStop};
-use core_types::{Blob, NoMemory};
 use folder::RealFolder;
+use sequences::{Blob, NoMemory};
 use std::alloc::Global;
 use std::fs::File;
 use std::io::{self, ErrorKind};

@@ -5,7 +5,7 @@ use Rattle.std.specs.Ordering.{nat_cmp, eq_by_cmp}
 use Rattle.std.specs.Cmp.{nat_cmp_total}
 use Rattle.std.specs.FinMap.{get-insert, get-remove}
 use Rattle.std.proofs.lemmas.Option.{none-some, same_Some}
-use Rattle.core_types.specs.Done.{word}
+use Rattle.sequences.specs.Words.{word}
 use Rattle.core_types.specs.declared.event.Answer.TheVariants as answer
 use Rattle.core_types.specs.declared.event.Event.{Event}
 use Rattle.core_types.specs.declared.event.Event.TheVariants as event

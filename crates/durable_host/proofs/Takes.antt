@@ -7,7 +7,7 @@ use Rattle.std.specs.Cmp.{nat_cmp_total}
 use Rattle.std.specs.FinMap.{get-insert, get-remove}
 use Rattle.std.proofs.lemmas.List.{drop-append-le}
 use Rattle.core_types.specs.CommandRow.{takes}
-use Rattle.core_types.specs.Done.{word}
+use Rattle.sequences.specs.Words.{word}
 use Rattle.core_types.specs.Keys.{Keys}
 use Rattle.core_types.specs.declared.event.Answer.{Answer}
 use Rattle.core_types.specs.declared.event.Answer.TheVariants as answer

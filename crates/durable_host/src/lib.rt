@@ -22,8 +22,6 @@ mod laws;
 mod loader;
 mod loading;
 mod parts;
-#[cfg(test)]
-mod tests;
 
 pub use fault::{HostFault, StartBack};
 pub use host::DurableHost;

@@ -15,9 +15,6 @@ use core_types::{Effects, NoMemory};
 use std::alloc::Global;
 use std::marker::Model;
 
-#[cfg(test)]
-mod tests;
-
 /// What a log holds next.
 #[derive(Debug, Drop)]
 pub enum NextUnit {

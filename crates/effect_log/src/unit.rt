@@ -8,9 +8,6 @@ use core_types::{Blob, Effects, NoMemory};
 use resp_codec::write_request;
 use std::alloc::Global;
 
-#[cfg(test)]
-mod tests;
-
 // The requests that open and close a unit of several effects.
 const MULTI: &[u8] = b"*1\r\n$5\r\nMULTI\r\n";
 

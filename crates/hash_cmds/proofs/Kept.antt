@@ -9,7 +9,8 @@ use Rattle.std.proofs.lemmas.Bool.Decides.{nat_tests}
 use Rattle.byte_text.specs.Number.{fits_i64, i64_of}
 use Rattle.byte_text.proofs.Decimals.{is_fit, signed_decimal-short}
 use Rattle.core_types.specs.CommandRow.{MeetArity}
-use Rattle.core_types.specs.Done.{Done, answers, word}
+use Rattle.core_types.specs.Done.{Done, answers}
+use Rattle.sequences.specs.Words.{word}
 use Rattle.core_types.specs.Fields.{AreDistinct, field_value, with_field, with_fields, without_field}
 use Rattle.core_types.specs.Keyspace.{IsFieldOfStrings, IsString}
 use Rattle.core_types.specs.declared.field.Field.{Field}

@@ -4,7 +4,8 @@ use Rattle.std.specs.Prelude.{◌+ℤ◌, unwrap_or}
 use Rattle.std.specs.Int.{w64}
 use Rattle.byte_text.specs.Number.{i64_of}
 use Rattle.byte_text.proofs.Decimals.{fits, i64_of-only, is_fit}
-use Rattle.core_types.specs.Done.{Done, Does, word}
+use Rattle.core_types.specs.Done.{Done, Does}
+use Rattle.sequences.specs.Words.{word}
 use Rattle.core_types.specs.declared.field.Field.{Field}
 use Rattle.core_types.specs.declared.outcome.Outcome.{Outcome}
 use Rattle.hash_cmds.specs.Counting.{adds, becomes_number, number_held}

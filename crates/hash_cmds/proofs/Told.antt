@@ -5,7 +5,8 @@ use Rattle.std.specs.Prelude.{◌+ℤ◌, ◌==◌}
 use Rattle.std.proofs.lemmas.Bool.Decides.{nat_tests}
 use Rattle.byte_text.specs.Number.{fits_i64, i64_of}
 use Rattle.core_types.specs.CommandRow.{MeetArity}
-use Rattle.core_types.specs.Done.{Done, answers, own_words, word}
+use Rattle.core_types.specs.Done.{Done, answers, own_words}
+use Rattle.sequences.specs.Words.{word}
 use Rattle.core_types.specs.Fields.{field_value}
 use Rattle.core_types.specs.declared.field.Field.{Field}
 use Rattle.core_types.specs.declared.reply.Reply.{Reply}

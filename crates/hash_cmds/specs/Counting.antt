@@ -2,7 +2,8 @@
 use Rattle.std.specs.Prelude.{ℕ, ℤ, pos, ◌+ℤ◌, if◌then◌else◌, List, codes, Option, Some, None}
 use Rattle.std.specs.Fmt.{signed_decimal}
 use Rattle.byte_text.specs.Number.{i64_of, fits_i64}
-use Rattle.core_types.specs.Done.{Done, Change, refuses, changes, own_words, word}
+use Rattle.core_types.specs.Done.{Done, Change, refuses, changes, own_words}
+use Rattle.sequences.specs.Words.{word}
 use Rattle.core_types.specs.Fields.{field_value, with_field}
 use Rattle.core_types.specs.declared.field.Field.{Field}
 use Rattle.core_types.specs.declared.refusal.Refusal.TheVariants as refusal

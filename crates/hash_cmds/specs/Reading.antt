@@ -1,6 +1,7 @@
 -- The commands that answer what a hash holds, and change nothing.
 use Rattle.std.specs.Prelude.{ℕ, pos, Bool, if◌then◌else◌, List, [], ◌∷◌, length, map, drop, flat_map, Option, Some, None, is_some, unwrap_or}
-use Rattle.core_types.specs.Done.{Done, answers, word}
+use Rattle.core_types.specs.Done.{Done, answers}
+use Rattle.sequences.specs.Words.{word}
 use Rattle.core_types.specs.Fields.{field_value}
 use Rattle.core_types.specs.Parts.{parts_of}
 use Rattle.core_types.specs.Several.{Several}

@@ -2,7 +2,8 @@
 -- reference.
 use Rattle.std.specs.Prelude.{ℕ, List, codes, Option, None}
 use Rattle.byte_text.specs.Number.{i64_of}
-use Rattle.core_types.specs.Done.{Done, refuses, word}
+use Rattle.core_types.specs.Done.{Done, refuses}
+use Rattle.sequences.specs.Words.{word}
 use Rattle.core_types.specs.declared.field.Field.{Field}
 use Rattle.core_types.specs.declared.refusal.Refusal.TheVariants as refusals
 use Rattle.core_types.specs.declared.reply.Reply.{Reply}

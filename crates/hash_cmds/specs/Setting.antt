@@ -1,6 +1,7 @@
 -- HSET, HMSET and HSETNX: they put fields.
 use Rattle.std.specs.Prelude.{ℕ, pos, ◌-◌, if◌then◌else◌, List, length, drop, codes, is_some}
-use Rattle.core_types.specs.Done.{Done, Change, answers, changes, own_words, word}
+use Rattle.core_types.specs.Done.{Done, Change, answers, changes, own_words}
+use Rattle.sequences.specs.Words.{word}
 use Rattle.core_types.specs.Fields.{field_value, with_fields}
 use Rattle.core_types.specs.declared.field.Field.{Field}
 use Rattle.core_types.specs.declared.reply.Reply.{Reply}

@@ -1,7 +1,8 @@
 -- What the words of a command on a hash say, and what a key holds.
 use Rattle.std.specs.Prelude.{ℕ, ℤ, pos, ◌%◌, ◌==◌, if◌then◌else◌, List, [], ◌∷◌, length, Option, Some, None, unwrap_or}
 use Rattle.byte_text.specs.Number.{i64_of}
-use Rattle.core_types.specs.Done.{Done, answers, note_on_key, word}
+use Rattle.core_types.specs.Done.{Done, answers, note_on_key}
+use Rattle.sequences.specs.Words.{word}
 use Rattle.core_types.specs.Refusals.{refused, wrong_arity}
 use Rattle.core_types.specs.declared.field.Field.{Field}
 use Rattle.core_types.specs.declared.note.Note.{Note}

@@ -2,7 +2,7 @@
 
 ghost use Rattle.std.specs.Prelude.{◌≡◌, ℕ, List, Option, Some, None, false, slice_get};
 ghost use Rattle.core_types.specs.CommandRow.{MeetArity};
-ghost use Rattle.core_types.specs.Done.{word};
+ghost use Rattle.sequences.specs.Words.{word};
 ghost use Rattle.core_types.specs.declared.field.Field.{Field};
 ghost use Rattle.hash_cmds.specs.declared.command.HashCmd.{HashCmd};
 ghost use Rattle.hash_cmds.specs.Commands.{command_row};

@@ -21,8 +21,6 @@ mod refusing;
 mod removing;
 mod running;
 mod setting;
-#[cfg(test)]
-mod tests;
 mod words;
 
 pub use command::HashCmd;

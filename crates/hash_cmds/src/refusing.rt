@@ -6,7 +6,7 @@ ghost use Rattle.hash_cmds.specs.Commands.{command_row};
 ghost use Rattle.hash_cmds.specs.Rows.{refusal};
 ghost use Rattle.hash_cmds.specs.Words.{no_number, no_pairs};
 ghost use Rattle.byte_text.specs.Number.{i64_of};
-ghost use Rattle.core_types.specs.Done.{word};
+ghost use Rattle.sequences.specs.Words.{word};
 
 use crate::HashCmd;
 use byte_text::read_i64;

@@ -4,7 +4,7 @@ use Rattle.std.specs.List.{AllByRecursion}
 use Rattle.std.specs.Option.{IfSome, option_map}
 use Rattle.std.specs.Str.{str_eq_ignore_ascii_case}
 use Rattle.core_types.specs.CommandRow.{MeetArity, takes}
-use Rattle.core_types.specs.Done.{word}
+use Rattle.sequences.specs.Words.{word}
 use Rattle.core_types.specs.Keys.{Keys, Native, without}
 use Rattle.core_types.specs.Keyspace.{IsKeyspace}
 use Rattle.core_types.specs.declared.effect.Effect.{Effect}

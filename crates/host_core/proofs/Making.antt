@@ -11,7 +11,7 @@ use Rattle.core_types.specs.declared.event.Event.{Event}
 use Rattle.core_types.specs.declared.event.Event.TheVariants as event
 use Rattle.core_types.specs.declared.client_state.ClientState.{ClientState}
 use Rattle.core_types.specs.declared.client_state.ClientState.TheVariants as states
-use Rattle.core_types.specs.declared.no_memory.NoMemory.{NoMemory}
+use Rattle.sequences.specs.declared.no_memory.NoMemory.{NoMemory}
 use Rattle.client_book.specs.Register.{Listed, joins, leaves, listed, roll_of}
 use Rattle.client_book.specs.Register.{state_of as state_of_client}
 use Rattle.client_book.specs.declared.book.JoinFault.{JoinFault}

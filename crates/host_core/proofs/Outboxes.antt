@@ -11,7 +11,7 @@ use Rattle.std.proofs.lemmas.Map.Views.{tells_apart}
 use Rattle.std.proofs.lemmas.Option.{none-some, same_Some}
 use Rattle.std.specs.FinMap.{get-insert, get-remove, same_map, nat_cmp-IsAntisymmetric}
 use Rattle.core_types.specs.CommandRow.{takes}
-use Rattle.core_types.specs.Done.{word}
+use Rattle.sequences.specs.Words.{word}
 use Rattle.core_types.specs.declared.event.Answer.TheVariants as answer
 use Rattle.core_types.specs.declared.event.Event.{Event}
 use Rattle.core_types.specs.declared.event.Event.TheVariants as event

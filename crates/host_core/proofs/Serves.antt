@@ -1,7 +1,7 @@
 -- Serves clause given of `serve`, `serve_connection` and `serve_keys`.
 use Rattle.std.proofs.Common.{◌≡◌, refl, sym, ap, ◌∙◌, ℕ, true, false, if◌then◌else◌, List, [], length, Some, None}
 use Rattle.core_types.specs.CommandRow.{takes}
-use Rattle.core_types.specs.Done.{word}
+use Rattle.sequences.specs.Words.{word}
 use Rattle.core_types.specs.Keys.{Keys}
 use Rattle.core_types.specs.Refusals.{unknown_command, wrong_arity}
 use Rattle.core_types.specs.declared.effect.Effect.{Effect}

@@ -2,7 +2,7 @@
 -- keys, event by event.
 use Rattle.std.proofs.Common.{◌≡◌, refl, max, ℕ, Bool, true, false, if◌then◌else◌, nat_le, List, [], length, Option, Some, None}
 use Rattle.core_types.specs.CommandRow.{MeetArity, takes}
-use Rattle.core_types.specs.Done.{word}
+use Rattle.sequences.specs.Words.{word}
 use Rattle.core_types.specs.Keys.{Keys}
 use Rattle.core_types.specs.declared.effect.Effect.{Effect}
 use Rattle.core_types.specs.declared.event.Event.{Event}

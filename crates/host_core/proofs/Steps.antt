@@ -2,7 +2,7 @@
 use Rattle.std.proofs.Common.{◌≡◌, ◌<◌, refl, sym, ap, ◌∙◌, ℕ, Bool, true, false, if◌then◌else◌, nat_le, List, Option, Some, None, arith, length}
 use Rattle.std.proofs.lemmas.Bool.Decides.{nat_tests}
 use Rattle.core_types.specs.CommandRow.{takes}
-use Rattle.core_types.specs.Done.{word}
+use Rattle.sequences.specs.Words.{word}
 use Rattle.core_types.specs.declared.event.Answer.TheVariants as answer
 use Rattle.core_types.specs.declared.event.Event.{Event}
 use Rattle.core_types.specs.declared.event.Event.TheVariants as event

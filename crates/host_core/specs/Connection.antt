@@ -2,7 +2,7 @@
 use Rattle.std.specs.Prelude.{ℕ, ℤ, pos, negsuc, List, length, codes, if◌then◌else◌, nat_eq, Option, Some, None}
 use Rattle.byte_text.specs.Name.{same_name}
 use Rattle.byte_text.specs.Number.{i64_of}
-use Rattle.core_types.specs.Done.{word}
+use Rattle.sequences.specs.Words.{word}
 use Rattle.core_types.specs.Refusals.{refused, wrong_arity}
 use Rattle.core_types.specs.declared.refusal.Refusal.TheVariants as refusal
 use Rattle.core_types.specs.declared.reply.Reply.{Reply}

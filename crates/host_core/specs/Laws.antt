@@ -1,7 +1,7 @@
 -- What holds of every step, and of every run of a machine.
 use Rattle.std.specs.Prelude.{◌≡◌, ◌<◌, ◌≤◌, ⊤, ℕ, Bool, false, List, [], ◌++◌, length, max, Option, Some, None, Ok, Err}
 use Rattle.std.specs.List.{AllByRecursion}
-use Rattle.core_types.specs.Done.{word}
+use Rattle.sequences.specs.Words.{word}
 use Rattle.core_types.specs.Keys.{Keys, Native}
 use Rattle.core_types.specs.Keyspace.{IsKeyspace}
 use Rattle.core_types.specs.declared.effect.Effect.{Effect}

@@ -1,7 +1,7 @@
 -- What serving a request means: it is said here and nowhere else.
 use Rattle.std.specs.Prelude.{ℕ, List, length, if◌then◌else◌, Option, Some, None}
 use Rattle.core_types.specs.CommandRow.{takes}
-use Rattle.core_types.specs.Done.{word}
+use Rattle.sequences.specs.Words.{word}
 use Rattle.core_types.specs.Keys.{Native}
 use Rattle.core_types.specs.Refusals.{unknown_command, wrong_arity}
 use Rattle.key_cmds.specs.Rows.{does}

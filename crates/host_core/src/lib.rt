@@ -30,8 +30,6 @@ mod opening;
 mod replaying;
 mod serving;
 mod stepped;
-#[cfg(test)]
-mod tests;
 
 pub use builtin::Builtin;
 pub use connection::ConnectionCmd;

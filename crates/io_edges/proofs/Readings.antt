@@ -1,7 +1,7 @@
 -- Serves the clause `given` of `now` of a fixed clock, and the law `readings_in_parts`.
 use Rattle.std.proofs.Common.{◌≡◌, ℕ, zero, suc, ◌+◌, ◌-◌, ◌^◌, ◌≤◌, ◌<◌, min, List, [], ◌∷◌, ◌++◌, length, take, Option, Some, None, refl, sym, ap, ◌∙◌, arith, append_assoc, append-nil, length-append, length-take, eq-or-lt_of_le, ◌⊎◌, inl, inr}
 use Rattle.std.specs.Option.{option_map}
-use Rattle.core_types.specs.Causes.{one_more}
+use Rattle.sequences.specs.Causes.{one_more}
 use Rattle.io_edges.specs.Told.{with_readings}
 use Rattle.io_edges.specs.Memory.{reading_at, readings_given}
 

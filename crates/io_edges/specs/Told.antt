@@ -1,7 +1,7 @@
 -- What a source, a sink and a clock tell.
 use Rattle.std.specs.Prelude.{◌≡◌, ◌⊎◌, ℕ, ◌-◌, ◌^◌, List, ◌++◌, length, take, Option}
 use Rattle.std.specs.Option.{option_map}
-use Rattle.core_types.specs.Causes.{one_more}
+use Rattle.sequences.specs.Causes.{one_more}
 
 -- of a source: the bytes that are left, where it tells them, and how often it has failed
 pub record SourceTold : Type 0 where

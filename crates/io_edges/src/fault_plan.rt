@@ -4,7 +4,7 @@ ghost use Rattle.std.specs.Prelude.{◌≡◌, ◌≤◌, ◌↔◌, true, if◌
 ghost use Rattle.io_edges.specs.Memory.{planned};
 ghost use Rattle.io_edges.specs.inner.Calls.{NextFails, counted, faulted};
 
-use core_types::NoMemory;
+use sequences::NoMemory;
 use std::alloc::Global;
 use std::marker::Model;
 

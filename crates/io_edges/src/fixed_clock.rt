@@ -1,11 +1,11 @@
 //! A clock in memory, which tells the readings that it has given.
 
 ghost use Rattle.std.specs.Prelude.{◌≡◌, ◌<◌, ◌^◌, IfOk};
-ghost use Rattle.core_types.specs.Causes.{one_more};
+ghost use Rattle.sequences.specs.Causes.{one_more};
 ghost use Rattle.io_edges.specs.Memory.{reading_at, clock_telling};
 
 use crate::Clock;
-use core_types::NoMemory;
+use sequences::NoMemory;
 use std::alloc::Global;
 use std::marker::Model;
 

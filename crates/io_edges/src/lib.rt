@@ -11,7 +11,7 @@
 //! they are told to; `laws` says so. `RealSource` and `RealSink` are any reader and writer: a call
 //! that a signal interrupted is made again. `RealClock` is the clock of the system. Making one in
 //! memory takes memory for its content, and a `MemorySink` for what it gets; nothing else does. It
-//! stands on `core_types`.
+//! stands on `sequences`.
 #![tactic(auto)]
 
 mod clock;
@@ -25,8 +25,6 @@ mod real_sink;
 mod real_source;
 mod sink;
 mod source;
-#[cfg(test)]
-mod tests;
 
 pub use clock::Clock;
 pub use fixed_clock::FixedClock;

@@ -5,7 +5,7 @@ ghost use Rattle.io_edges.specs.Memory.{holding, source_telling};
 
 use crate::fault_plan::FaultPlan;
 use crate::{Source, SourceFault};
-use core_types::{Blob, NoMemory};
+use sequences::{Blob, NoMemory};
 use std::alloc::Global;
 use std::marker::Model;
 

@@ -2,7 +2,7 @@
 
 ghost use Rattle.std.specs.Prelude.{◌<◌, ◌≤◌, length, IfOk};
 ghost use Rattle.std.specs.Io.KnownBytes.{WriteAppends};
-ghost use Rattle.core_types.specs.Causes.{HasCause};
+ghost use Rattle.sequences.specs.Causes.{HasCause};
 ghost use Rattle.io_edges.specs.Told.{SinkTold};
 
 /// The sink failed, and counted it.

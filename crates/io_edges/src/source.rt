@@ -3,7 +3,7 @@
 ghost use Rattle.std.specs.Prelude.{◌<◌, length};
 ghost use Rattle.std.specs.Io.{ReadsAtMost};
 ghost use Rattle.std.specs.Io.KnownBytes.{ReadConsumes};
-ghost use Rattle.core_types.specs.Causes.{HasCause};
+ghost use Rattle.sequences.specs.Causes.{HasCause};
 ghost use Rattle.io_edges.specs.Told.{SourceTold};
 
 /// The source failed, and counted it.

@@ -6,7 +6,7 @@ use Rattle.std.specs.declared.vec.Vec.{Vec}
 use Rattle.std.proofs.lemmas.Option.{none-some}
 use Rattle.core_types.specs.Done.{Change, Does, Done, Makes}
 use Rattle.core_types.specs.Keys.{KeysOf, value_at, with_changed, with_value, deadline_at}
-use Rattle.core_types.specs.declared.no_memory.NoMemory.{NoMemory}
+use Rattle.sequences.specs.declared.no_memory.NoMemory.{NoMemory}
 use Rattle.core_types.specs.declared.outcome.After.{After}
 use Rattle.core_types.specs.declared.outcome.After.TheVariants as after
 use Rattle.core_types.specs.declared.outcome.Outcome.{Outcome}

@@ -6,7 +6,7 @@ use Rattle.std.proofs.lemmas.Option.{none-some}
 use Rattle.std.specs.Option.{option_and_then, option_map}
 use Rattle.byte_text.specs.Number.{i64_of}
 use Rattle.byte_text.proofs.Decimals.{fits}
-use Rattle.core_types.specs.Done.{word}
+use Rattle.sequences.specs.Words.{word}
 use Rattle.core_types.specs.Keys.{Entry, KeysOf, deadline_at, entry_at, value_at}
 use Rattle.core_types.specs.declared.reply.Reply.TheVariants as reply
 use Rattle.key_cmds.specs.Deadlines.{deadline_told, due_at, expire, expire_at, expires_now, gets_deadline, is_past, left_told, moment_of, persist, persists}

@@ -12,7 +12,8 @@ use Rattle.std.proofs.lemmas.Int.{ints}
 use Rattle.byte_text.specs.Number.{fits_i64, i64_of}
 use Rattle.byte_text.proofs.Decimals.{decimal-short, i64_of-only, is_fit}
 use Rattle.core_types.specs.CommandRow.{MeetArity}
-use Rattle.core_types.specs.Done.{Change, Done, changed, own_words, word}
+use Rattle.core_types.specs.Done.{Change, Done, changed, own_words}
+use Rattle.sequences.specs.Words.{word}
 use Rattle.core_types.specs.Keys.{Entry, KeysOf, deadline_at, entry_at, value_at, with_value, without}
 use Rattle.core_types.specs.Keyspace.{IsKeyspace, IsString, IsValue}
 use Rattle.core_types.specs.Refusals.{invalid_expire, refused, wrong_arity}

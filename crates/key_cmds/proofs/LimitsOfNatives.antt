@@ -15,7 +15,8 @@ use Rattle.std.proofs.lemmas.List.{append-nil}
 use Rattle.std.proofs.lemmas.List.Sorted.{IsPermutation-refl, IsPermutation-sym, IsPermutation-trans, IsPermutation-append_comm, IsPermutation-append_left, IsPermutation-append_right}
 use Rattle.std.proofs.lemmas.Option.{none-some}
 use Rattle.byte_text.specs.Number.{fits_i64, i64_of}
-use Rattle.core_types.specs.Done.{Change, word}
+use Rattle.core_types.specs.Done.{Change}
+use Rattle.sequences.specs.Words.{word}
 use Rattle.core_types.specs.Keys.{Entry, KeysOf, deadline_at, entry_at, value_at, with_due, with_entry, with_moved, without}
 use Rattle.core_types.specs.Refusals.{invalid_expire, refused, wrong_arity}
 use Rattle.core_types.specs.declared.refusal.Refusal.TheVariants as refusal

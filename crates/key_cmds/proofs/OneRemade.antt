@@ -2,7 +2,8 @@
 -- effects_remake_changes and of refusals_change_nothing.
 use Rattle.std.proofs.Common.{◌≡◌, ◌≢◌, ◌⊎◌, inl, inr, ℕ, Bool, true, false, List, [], ◌∷◌, Option, Some, None, refl, sym, ap, ◌∙◌}
 use Rattle.core_types.specs.CommandRow.{MeetArity}
-use Rattle.core_types.specs.Done.{Change, Done, unless_refused, word}
+use Rattle.core_types.specs.Done.{Change, Done, unless_refused}
+use Rattle.sequences.specs.Words.{word}
 use Rattle.core_types.specs.Keys.{KeysOf, value_at}
 use Rattle.core_types.specs.declared.effect.Effect.{Effect}
 use Rattle.core_types.specs.declared.field.Field.{Field}

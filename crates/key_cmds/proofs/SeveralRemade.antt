@@ -8,7 +8,8 @@ use Rattle.std.proofs.lemmas.Bool.Decides.{nat_tests}
 use Rattle.byte_text.specs.Number.{fits_i64, i64_of}
 use Rattle.byte_text.proofs.Decimals.{i64_of-decimal, i64_of-only, is_fit}
 use Rattle.core_types.specs.CommandRow.{MeetArity}
-use Rattle.core_types.specs.Done.{own_words, word}
+use Rattle.core_types.specs.Done.{own_words}
+use Rattle.sequences.specs.Words.{word}
 use Rattle.core_types.specs.Keys.{Entry, KeysOf, deadline_at, entry_at, value_at, without}
 use Rattle.core_types.specs.declared.reply.Reply.{Reply}
 use Rattle.core_types.specs.declared.value.Value.{Value}

@@ -5,7 +5,8 @@ use Rattle.std.specs.Prelude.{ℕ, ℤ, pos, negsuc, ◌+◌, ◌-◌, ◌+ℤ�
 use Rattle.std.specs.Fmt.{decimal}
 use Rattle.std.specs.Option.{option_map}
 use Rattle.byte_text.specs.Number.{fits_i64, i64_of}
-use Rattle.core_types.specs.Done.{own_words, word}
+use Rattle.core_types.specs.Done.{own_words}
+use Rattle.sequences.specs.Words.{word}
 use Rattle.core_types.specs.Keys.{KeysOf, Entry, entry_at, deadline_at, value_at, with_deadline, without}
 use Rattle.core_types.specs.Refusals.{invalid_expire}
 use Rattle.core_types.specs.declared.effect.Effect.{Effect}

@@ -1,6 +1,7 @@
 -- The commands on one key, by the rows of the crates that have them.
 use Rattle.std.specs.Prelude.{ℕ, List, [], Option, Some, None}
-use Rattle.core_types.specs.Done.{Change, Done, word}
+use Rattle.core_types.specs.Done.{Change, Done}
+use Rattle.sequences.specs.Words.{word}
 use Rattle.core_types.specs.Keys.{KeysOf, value_at, with_changed, with_value, without}
 use Rattle.core_types.specs.declared.field.Field.{Field}
 use Rattle.core_types.specs.declared.value.Value.{Value}

@@ -2,7 +2,8 @@
 -- DBSIZE, MGET and MSET.
 use Rattle.std.specs.Prelude.{ℕ, pos, ◌%◌, ◌==◌, Bool, if◌then◌else◌, List, [], ◌∷◌, ◌++◌, length, map, flat_map, drop, filter, codes, Option, Some, None, is_some}
 use Rattle.std.specs.Str.{bytes_eq}
-use Rattle.core_types.specs.Done.{own_words, word}
+use Rattle.core_types.specs.Done.{own_words}
+use Rattle.sequences.specs.Words.{word}
 use Rattle.core_types.specs.Keys.{KeysOf, value_at, with_value, without, renamed, key_count}
 use Rattle.core_types.specs.Parts.{parts_of}
 use Rattle.core_types.specs.Refusals.{wrong_arity}

@@ -30,8 +30,6 @@ mod running;
 mod setting;
 mod settling;
 mod several_keys;
-#[cfg(test)]
-mod tests;
 
 pub use command::{Command, KeyCmd};
 pub use deadlines::{ExpiredKey, expire_first};

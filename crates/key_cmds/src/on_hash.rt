@@ -2,7 +2,7 @@
 
 ghost use Rattle.std.specs.Prelude.{◌≡◌, ◌++◌, Some, IfOk, OnOk, OnErr};
 ghost use Rattle.core_types.specs.CommandRow.{MeetArity};
-ghost use Rattle.core_types.specs.Done.{word};
+ghost use Rattle.sequences.specs.Words.{word};
 ghost use Rattle.core_types.specs.Keys.{value_at};
 ghost use Rattle.hash_cmds.specs.Commands as hash_commands;
 ghost use Rattle.key_cmds.specs.OneKey.{on_hash, hash_done};

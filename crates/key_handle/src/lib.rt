@@ -9,8 +9,6 @@
 
 mod fault;
 mod handle;
-#[cfg(test)]
-mod tests;
 
 pub use fault::HandleFault;
 pub use handle::{Handle, Mode};

@@ -15,8 +15,6 @@ mod put_back;
 mod store;
 mod stored;
 mod table;
-#[cfg(test)]
-mod tests;
 
 pub use entries::Entries;
 pub use put_back::PutBack;

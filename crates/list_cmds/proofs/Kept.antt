@@ -7,7 +7,8 @@ use Rattle.std.proofs.lemmas.Bool.Decides.{nat_tests}
 use Rattle.std.proofs.lemmas.Grind.{reverse_onto}
 use Rattle.std.proofs.lemmas.List.{length-reverse}
 use Rattle.core_types.specs.CommandRow.{MeetArity}
-use Rattle.core_types.specs.Done.{Change, Done, answers, changes, own_words, unless_refused, word}
+use Rattle.core_types.specs.Done.{Change, Done, answers, changes, own_words, unless_refused}
+use Rattle.sequences.specs.Words.{word}
 use Rattle.core_types.specs.Equal.{without_first, without_last}
 use Rattle.core_types.specs.Keyspace.{IsString}
 use Rattle.core_types.specs.declared.refusal.Refusal.{Refusal}

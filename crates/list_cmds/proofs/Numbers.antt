@@ -6,7 +6,7 @@ use Rattle.std.specs.Int.{w64}
 use Rattle.std.proofs.Math.Facts.{to_z-of_z}
 use Rattle.byte_text.specs.Number.{i64_of}
 use Rattle.byte_text.proofs.Decimals.{i64_of-only}
-use Rattle.core_types.specs.Done.{word}
+use Rattle.sequences.specs.Words.{word}
 use Rattle.list_cmds.specs.Words.{number}
 
 read_fits : (bytes : List ℕ) (read : Option ℤ) → i64_of bytes ≡ read → FitsSigned w64 (unwrap_or read (pos 0))

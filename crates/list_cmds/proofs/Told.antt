@@ -3,7 +3,8 @@
 use Rattle.std.proofs.Common.{◌≡◌, inl, inr, ◌-◌, if◌then◌else◌, ℕ, Bool, true, false, List, [], ◌∷◌, length, codes, Option, Some, None, refl, sym, ap, ◌∙◌}
 use Rattle.std.specs.Prelude.{◌==◌}
 use Rattle.core_types.specs.CommandRow.{MeetArity}
-use Rattle.core_types.specs.Done.{Change, Done, answers, changes, own_words, refuses, unless_refused, word}
+use Rattle.core_types.specs.Done.{Change, Done, answers, changes, own_words, refuses, unless_refused}
+use Rattle.sequences.specs.Words.{word}
 use Rattle.core_types.specs.declared.refusal.Refusal.{Refusal}
 use Rattle.core_types.specs.declared.refusal.Refusal.TheVariants as refusals
 use Rattle.core_types.specs.declared.reply.Reply.{Reply}

@@ -1,6 +1,7 @@
 -- LPUSH, RPUSH and LSET: they put items into a list.
 use Rattle.std.specs.Prelude.{ℕ, ◌++◌, List, length, drop, reverse, slice_set, codes, Option, Some, None}
-use Rattle.core_types.specs.Done.{Done, Change, changes, own_words, refuses, word}
+use Rattle.core_types.specs.Done.{Done, Change, changes, own_words, refuses}
+use Rattle.sequences.specs.Words.{word}
 use Rattle.core_types.specs.declared.refusal.Refusal.TheVariants as refusal
 use Rattle.core_types.specs.declared.reply.Reply.TheVariants as reply
 use Rattle.list_cmds.specs.Words.{counted, list_note, number, place_of}

@@ -2,7 +2,8 @@
 use Rattle.std.specs.Prelude.{◌≡◌, ◌≢◌, ◌<◌, ◌≤◌, ◌⊎◌, ⊤, ℕ, List, [], ◌∷◌, length, codes, Option, Some, None}
 use Rattle.std.specs.List.{AllByRecursion}
 use Rattle.core_types.specs.CommandRow.{MeetArity}
-use Rattle.core_types.specs.Done.{Change, Done, changed, word}
+use Rattle.core_types.specs.Done.{Change, Done, changed}
+use Rattle.sequences.specs.Words.{word}
 use Rattle.core_types.specs.Keyspace.{IsString}
 use Rattle.core_types.specs.declared.effect.Effect.{Effect}
 use Rattle.core_types.specs.declared.note.Note.{Note}

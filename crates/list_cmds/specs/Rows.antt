@@ -1,7 +1,8 @@
 -- What each command on a list does to a key: one line a command, after the Redis command reference.
 use Rattle.std.specs.Prelude.{ℕ, List, Option, None}
 use Rattle.byte_text.specs.Number.{i64_of}
-use Rattle.core_types.specs.Done.{Done, refuses, unless_refused, word}
+use Rattle.core_types.specs.Done.{Done, refuses, unless_refused}
+use Rattle.sequences.specs.Words.{word}
 use Rattle.core_types.specs.declared.refusal.Refusal.{Refusal}
 use Rattle.core_types.specs.declared.refusal.Refusal.TheVariants as refusals
 use Rattle.list_cmds.specs.declared.command.ListCmd.{ListCmd}

@@ -1,7 +1,8 @@
 -- LPOP, RPOP, LTRIM and LREM: they take items out of a list, and a list without items goes.
 use Rattle.std.specs.Prelude.{ℕ, zero, suc, ℤ, pos, negsuc, ◌+◌, ◌-◌, ◌==◌, if◌then◌else◌, List, [], ◌∷◌, length, drop, take, slice_index_or, codes, Option, Some, None}
 use Rattle.core_types.specs.Cutting.{taken_range}
-use Rattle.core_types.specs.Done.{Done, Change, answers, changes, own_words, word}
+use Rattle.core_types.specs.Done.{Done, Change, answers, changes, own_words}
+use Rattle.sequences.specs.Words.{word}
 use Rattle.core_types.specs.Equal.{without_first, without_last}
 use Rattle.core_types.specs.declared.reply.Reply.{Reply}
 use Rattle.core_types.specs.declared.reply.Reply.TheVariants as reply

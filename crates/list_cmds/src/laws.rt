@@ -2,7 +2,7 @@
 
 ghost use Rattle.std.specs.Prelude.{◌≡◌, ℕ, List, Option, Some, None, false, slice_get};
 ghost use Rattle.core_types.specs.CommandRow.{MeetArity};
-ghost use Rattle.core_types.specs.Done.{word};
+ghost use Rattle.sequences.specs.Words.{word};
 ghost use Rattle.list_cmds.specs.declared.command.ListCmd.{ListCmd};
 ghost use Rattle.list_cmds.specs.Commands.{command_row};
 ghost use Rattle.list_cmds.specs.Laws.{ChangesAtMostOnce, ChangesNothing, IsKept, IsRefusal, IsWithinLimits, KeepsLimits};

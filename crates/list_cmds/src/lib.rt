@@ -20,8 +20,6 @@ mod reading;
 mod refusing;
 mod running;
 mod taking;
-#[cfg(test)]
-mod tests;
 mod words;
 
 pub use command::ListCmd;

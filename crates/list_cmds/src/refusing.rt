@@ -3,7 +3,7 @@
 ghost use Rattle.std.specs.Prelude.{◌≡◌, ◌<◌, length};
 ghost use Rattle.byte_text.specs.Number.{i64_of};
 ghost use Rattle.core_types.specs.CommandRow.{MeetArity};
-ghost use Rattle.core_types.specs.Done.{word};
+ghost use Rattle.sequences.specs.Words.{word};
 ghost use Rattle.list_cmds.specs.Commands.{command_row};
 ghost use Rattle.list_cmds.specs.Rows.{refusal};
 ghost use Rattle.list_cmds.specs.Words.{no_number};

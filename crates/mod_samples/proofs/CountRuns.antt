@@ -16,7 +16,7 @@ use Rattle.std.proofs.lemmas.Option.{none-some, same_Some}
 use Rattle.byte_text.proofs.Decimals.{i64_of-only}
 use Rattle.byte_text.specs.Name.{same_name}
 use Rattle.byte_text.specs.Number.{i64_of}
-use Rattle.core_types.specs.Done.{word}
+use Rattle.sequences.specs.Words.{word}
 use Rattle.core_types.specs.Keys.{Keys, Native, value_at}
 use Rattle.core_types.specs.Keyspace.{IsString, longest}
 use Rattle.core_types.specs.declared.effect.Effect.{Effect}

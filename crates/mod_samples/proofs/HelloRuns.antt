@@ -11,7 +11,7 @@ use Rattle.std.proofs.lemmas.Option.{none-some, same_Some}
 use Rattle.byte_text.proofs.Decimals.{i64_of-decimal, is_fit, signed_decimal-short}
 use Rattle.byte_text.specs.Name.{same_name}
 use Rattle.byte_text.specs.Number.{i64_of}
-use Rattle.core_types.specs.Done.{word}
+use Rattle.sequences.specs.Words.{word}
 use Rattle.core_types.specs.Keys.{Keys, value_at}
 use Rattle.core_types.specs.Keyspace.{IsString}
 use Rattle.core_types.specs.declared.effect.Effect.{Effect}

@@ -2,9 +2,10 @@
 use Rattle.std.proofs.Common.{◌≡◌, [], ◌∷◌, length, map, drop, ◌<◌, IfOk, Result, Ok, Err, ap, ◌∙◌, arith}
 use Rattle.std.specs.Char.{to_ascii_uppercase}
 use Rattle.std.proofs.lemmas.List.{length-map}
-use Rattle.core_types.specs.Done.{own_words, word}
+use Rattle.core_types.specs.Done.{own_words}
+use Rattle.sequences.specs.Words.{word}
 use Rattle.core_types.specs.declared.effect.Effect.{Effect}
-use Rattle.core_types.specs.declared.no_memory.NoMemory.{NoMemory}
+use Rattle.sequences.specs.declared.no_memory.NoMemory.{NoMemory}
 use Rattle.module_laws.specs.Limits.{IsWithinLimits}
 use Rattle.module_laws.specs.Replay.{command_name}
 use Rattle.module_laws.specs.Words.{Bytes, Words}

@@ -5,7 +5,7 @@ use Rattle.std.specs.Result.{IsErrAnd}
 use Rattle.std.specs.Str.{bytes_eq}
 use Rattle.std.proofs.lemmas.List.{append-nil}
 use Rattle.std.proofs.lemmas.Option.{none-some}
-use Rattle.core_types.specs.Done.{word}
+use Rattle.sequences.specs.Words.{word}
 use Rattle.core_types.specs.Keys.{Entry, Keys, Native, entry_at, value_at, with_changed, with_entry, with_value}
 use Rattle.core_types.specs.Keyspace.{IsString, IsKeyspace}
 use Rattle.core_types.specs.declared.note.Note.{Note}

@@ -1,6 +1,6 @@
 -- What a command of a module does that changes its key.
 use Rattle.std.specs.Prelude.{ℕ, ◌-◌, ◌^◌, pos, min, [], ◌∷◌, ◌++◌, List, Option}
-use Rattle.core_types.specs.Done.{word}
+use Rattle.sequences.specs.Words.{word}
 use Rattle.core_types.specs.Refusals.{refused}
 use Rattle.core_types.specs.declared.note.Note.{Note}
 use Rattle.core_types.specs.declared.note.NoteClass.TheVariants as class

@@ -5,7 +5,7 @@ use Rattle.std.specs.Option.{option_map, unwrap_or}
 use Rattle.std.specs.Str.{bytes_eq}
 use Rattle.byte_text.specs.Number.{i64_of}
 use Rattle.core_types.specs.CommandRow.{CommandRow}
-use Rattle.core_types.specs.Done.{word}
+use Rattle.sequences.specs.Words.{word}
 use Rattle.core_types.specs.Keys.{Keys, Native, value_at}
 use Rattle.core_types.specs.declared.part.Part.TheVariants as part
 use Rattle.core_types.specs.declared.refusal.Refusal.TheVariants as refusal

@@ -6,7 +6,7 @@ use Rattle.std.specs.Option.{is_none, option_map, unwrap_or}
 use Rattle.std.specs.Str.{bytes_eq}
 use Rattle.byte_text.specs.Number.{i64_of}
 use Rattle.core_types.specs.CommandRow.{CommandRow}
-use Rattle.core_types.specs.Done.{word}
+use Rattle.sequences.specs.Words.{word}
 use Rattle.core_types.specs.Keys.{Keys, Native, value_at}
 use Rattle.core_types.specs.declared.note.Note.{Note}
 use Rattle.core_types.specs.declared.note.NoteClass.TheVariants as class

@@ -4,7 +4,7 @@ ghost use Rattle.std.specs.Prelude.{◌≡◌, ◌+◌, ◌-◌, ◌^◌, ◌<�
 ghost use Rattle.std.specs.Option.{option_map};
 ghost use Rattle.core_types.specs.Keys.{value_at};
 ghost use Rattle.core_types.specs.Keyspace.{IsString};
-ghost use Rattle.core_types.specs.Done.{word};
+ghost use Rattle.sequences.specs.Words.{word};
 ghost use Rattle.byte_text.specs.Number.{i64_of};
 ghost use Rattle.module_laws.specs.Applying.{Applies, saved_of};
 ghost use Rattle.module_laws.specs.Laws.{IsCall};
@@ -401,7 +401,8 @@ impl Module for HelloType {
         ctx: &mut C,
         _payload: &Blob,
     ) -> Result<Reply, Stop>
-        ensures runs { Runs (type_of hellotype) (answers_only Reply.Null (C.told ctx.old).seen) result
+        ensures runs { Runs (type_of hellotype)
+            (answers_only Reply.Null (C.told ctx.old).seen) result
             (scene (plain_state self.old.tally.made self.old.tally.freed) (C.told ctx.old))
             (scene (plain_state self.new.tally.made self.new.tally.freed) (C.told ctx.new)) }
         ensures holds { C.held ctx.new ≡ C.held ctx.old }
@@ -416,7 +417,8 @@ impl Module for HelloType {
         ctx: &mut C,
         _job: &Blob,
     ) -> Result<Reply, Stop>
-        ensures runs { Runs (type_of hellotype) (answers_only Reply.Null (C.told ctx.old).seen) result
+        ensures runs { Runs (type_of hellotype)
+            (answers_only Reply.Null (C.told ctx.old).seen) result
             (scene (plain_state self.old.tally.made self.old.tally.freed) (C.told ctx.old))
             (scene (plain_state self.new.tally.made self.new.tally.freed) (C.told ctx.new)) }
         ensures holds { C.held ctx.new ≡ C.held ctx.old }

@@ -20,8 +20,6 @@ mod hello_type;
 mod reading;
 mod rising;
 mod tally;
-#[cfg(test)]
-mod tests;
 mod word_count;
 mod word_counts;
 mod words;

@@ -4,7 +4,7 @@ ghost use Rattle.std.specs.Prelude.{◌≡◌, ◌+◌, ◌-◌, ◌^◌, ◌<�
 ghost use Rattle.std.specs.Option.{is_none, option_map};
 ghost use Rattle.core_types.specs.Keys.{value_at};
 ghost use Rattle.core_types.specs.Keyspace.{IsString};
-ghost use Rattle.core_types.specs.Done.{word};
+ghost use Rattle.sequences.specs.Words.{word};
 ghost use Rattle.byte_text.specs.Number.{i64_of};
 ghost use Rattle.module_laws.specs.Applying.{Applies, saved_of};
 ghost use Rattle.module_laws.specs.Laws.{IsCall};
@@ -541,7 +541,8 @@ impl Module for WordCount {
         words: &Args,
     ) -> Result<Option<WordCounts>, ApplyStop<WordCounts>>
         requires counted { IsSome old → self.old.tally.freed < self.old.tally.made }
-        ensures applies { Applies (count_after (saved_of (λ w. counts_shown w.counts) old) words.now)
+        ensures applies { Applies
+            (count_after (saved_of (λ w. counts_shown w.counts) old) words.now)
             (λ w. counts_shown w.counts) old result
             (plain_state self.old.tally.made self.old.tally.freed)
             (plain_state self.new.tally.made self.new.tally.freed) }
@@ -607,7 +608,8 @@ impl Module for WordCount {
         ctx: &mut C,
         _payload: &Blob,
     ) -> Result<Reply, Stop>
-        ensures runs { Runs (type_of wordcount) (answers_only Reply.Null (C.told ctx.old).seen) result
+        ensures runs { Runs (type_of wordcount)
+            (answers_only Reply.Null (C.told ctx.old).seen) result
             (scene (plain_state self.old.tally.made self.old.tally.freed) (C.told ctx.old))
             (scene (plain_state self.new.tally.made self.new.tally.freed) (C.told ctx.new)) }
         ensures holds { C.held ctx.new ≡ C.held ctx.old }
@@ -622,7 +624,8 @@ impl Module for WordCount {
         ctx: &mut C,
         _job: &Blob,
     ) -> Result<Reply, Stop>
-        ensures runs { Runs (type_of wordcount) (answers_only Reply.Null (C.told ctx.old).seen) result
+        ensures runs { Runs (type_of wordcount)
+            (answers_only Reply.Null (C.told ctx.old).seen) result
             (scene (plain_state self.old.tally.made self.old.tally.freed) (C.told ctx.old))
             (scene (plain_state self.new.tally.made self.new.tally.freed) (C.told ctx.new)) }
         ensures holds { C.held ctx.new ≡ C.held ctx.old }

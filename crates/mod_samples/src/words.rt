@@ -2,7 +2,7 @@
 
 ghost use Rattle.std.specs.Prelude.{◌≡◌, ◌<◌, length, map, IfOk};
 ghost use Rattle.std.specs.Char.{to_ascii_uppercase};
-ghost use Rattle.core_types.specs.Done.{word};
+ghost use Rattle.sequences.specs.Words.{word};
 ghost use Rattle.mod_samples.specs.Words.{own};
 
 use core_types::{Args, Effect, NoMemory};

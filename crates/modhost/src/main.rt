@@ -18,8 +18,6 @@
 #![tactic(auto)]
 
 mod process;
-#[cfg(test)]
-mod tests;
 
 use std::process::ExitCode;
 

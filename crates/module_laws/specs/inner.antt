@@ -3,7 +3,3 @@ pub mod OneSet
 pub mod TwoSets
 pub mod Rows
 pub mod Plain
-pub mod Least
-pub mod Counter
-pub mod CounterLaws
-pub mod Shelf

@@ -9,9 +9,8 @@
 //! `Two` of lawful sets is a lawful set, and its halves see the context through `Left` and `Right`.
 //! docs/MODULES.md says what one has to write.
 //!
-//! Stands on type_ids and core_types, and the module of its tests on byte_text. A call through a
-//! set costs O(its depth) beside the module's own, and takes no memory. Joining two sets compares
-//! their names and commands pair by pair.
+//! Stands on type_ids and core_types. A call through a set costs O(its depth) beside the module's
+//! own, and takes no memory. Joining two sets compares their names and commands pair by pair.
 #![tactic(auto)]
 
 mod apart;
@@ -25,8 +24,6 @@ mod module;
 mod module_set;
 mod one;
 mod right;
-#[cfg(test)]
-mod tests;
 mod two;
 mod verdict;
 mod viewed;

@@ -17,8 +17,6 @@ mod place;
 mod rdb_fault;
 mod string;
 mod table;
-#[cfg(test)]
-mod tests;
 
 pub use crc64::Crc64;
 pub use laws::{checksum_in_pieces, lengths_read_back, one_length, one_string, strings_read_back};

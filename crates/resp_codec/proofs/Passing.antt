@@ -3,7 +3,7 @@ use Rattle.std.proofs.Common.{◌≡◌, ℕ, ◌+◌, List, [], ◌∷◌, ◌+
 use Rattle.std.specs.List.{concat}
 use Rattle.std.proofs.lemmas.List.{length-append}
 use Rattle.core_types.specs.declared.bad_request.BadRequest.{BadRequest}
-use Rattle.core_types.specs.declared.no_memory.NoMemory.{NoMemory}
+use Rattle.sequences.specs.declared.no_memory.NoMemory.{NoMemory}
 use Rattle.resp_codec.specs.declared.reader.Got.{Got}
 use Rattle.resp_codec.specs.declared.reader.Got.TheVariants as got
 use Rattle.resp_codec.specs.Spelling.{Spells, Skips, SkipsAll}

@@ -25,8 +25,6 @@ mod partial;
 mod protocol_error;
 mod reader;
 mod reading;
-#[cfg(test)]
-mod tests;
 mod word;
 mod writer;
 

@@ -15,8 +15,6 @@ mod keeping;
 mod laws;
 mod opening;
 mod replaying;
-#[cfg(test)]
-mod tests;
 
 pub use laws::one_opening;
 pub use opening::{OpenStop, Opened, look, open_log};

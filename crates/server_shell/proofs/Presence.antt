@@ -7,7 +7,7 @@ use Rattle.std.specs.FinMap.{get-insert, get-remove}
 use Rattle.std.proofs.lemmas.Bool.{false≢true}
 use Rattle.std.proofs.lemmas.Map.Lookups.{exact_unsigned}
 use Rattle.std.proofs.lemmas.Map.Views.{tells_apart}
-use Rattle.core_types.specs.Done.{word}
+use Rattle.sequences.specs.Words.{word}
 use Rattle.core_types.specs.declared.event.Answer.TheVariants as answer
 use Rattle.core_types.specs.declared.event.Event.{Event}
 use Rattle.core_types.specs.declared.event.Event.TheVariants as event

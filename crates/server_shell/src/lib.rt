@@ -19,8 +19,6 @@ mod handing;
 mod pipe;
 mod serving;
 mod status;
-#[cfg(test)]
-mod tests;
 mod top;
 mod words;
 

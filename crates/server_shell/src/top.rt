@@ -50,7 +50,8 @@ pub fn modhost<D: Dir, S: Source, K: Sink, C: Clock>(
     // A host was not started, or served the source: what each status says of the input, the
     // replies, the log and every crash.
     ensures runs { usage_fault (map (λ word. word.now) words.now) ≡ None
-        → job_of (map (λ word. word.now) words.now) ≡ Job.Pipe → RunEnds result.status D.told dir result.dir
+        → job_of (map (λ word. word.now) words.now) ≡ Job.Pipe
+        → RunEnds result.status D.told dir result.dir
         (outside_of (S.told source.old) (S.told source.new) (C.told clock.old) (C.told clock.new)
         (K.told sink.old) (K.told sink.new)) }
     // What a start would find was told, and nothing changed.

@@ -6,7 +6,8 @@ use Rattle.std.specs.Fmt.{signed_decimal}
 use Rattle.std.proofs.lemmas.Bool.Decides.{nat_tests}
 use Rattle.byte_text.specs.Number.{fits_i64}
 use Rattle.byte_text.proofs.Decimals.{is_fit, signed_decimal-short}
-use Rattle.core_types.specs.Done.{Done, answers, unless_refused, word}
+use Rattle.core_types.specs.Done.{Done, answers, unless_refused}
+use Rattle.sequences.specs.Words.{word}
 use Rattle.core_types.specs.Keyspace.{IsString, longest}
 use Rattle.core_types.specs.declared.refusal.Refusal.{Refusal}
 use Rattle.core_types.specs.declared.reply.Reply.{Reply}

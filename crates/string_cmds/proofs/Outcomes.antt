@@ -4,7 +4,8 @@ use Rattle.std.specs.Prelude.{◌+ℤ◌, ◌==◌}
 use Rattle.std.specs.Int.{w64}
 use Rattle.std.proofs.lemmas.Bool.Decides.{nat_tests}
 use Rattle.byte_text.proofs.Decimals.{fits}
-use Rattle.core_types.specs.Done.{Done, Does, word}
+use Rattle.core_types.specs.Done.{Done, Does}
+use Rattle.sequences.specs.Words.{word}
 use Rattle.core_types.specs.Keyspace.{longest}
 use Rattle.core_types.specs.declared.outcome.Outcome.{Outcome}
 use Rattle.core_types.specs.declared.reply.Reply.TheVariants as reply

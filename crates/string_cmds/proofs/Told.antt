@@ -5,7 +5,8 @@ use Rattle.std.specs.Fmt.{signed_decimal}
 use Rattle.byte_text.specs.Number.{fits_i64, i64_of}
 use Rattle.byte_text.proofs.Decimals.{is_fit, i64_of-decimal}
 use Rattle.core_types.specs.CommandRow.{MeetArity}
-use Rattle.core_types.specs.Done.{Done, answers, unless_refused, word}
+use Rattle.core_types.specs.Done.{Done, answers, unless_refused}
+use Rattle.sequences.specs.Words.{word}
 use Rattle.core_types.specs.Keyspace.{longest}
 use Rattle.core_types.specs.declared.refusal.Refusal.{Refusal}
 use Rattle.core_types.specs.declared.reply.Reply.{Reply}

@@ -2,7 +2,8 @@
 use Rattle.std.specs.Prelude.{ℕ, ℤ, pos, ◌+ℤ◌, if◌then◌else◌, List, [], ◌∷◌, codes, Option, Some, None}
 use Rattle.std.specs.Fmt.{signed_decimal}
 use Rattle.byte_text.specs.Number.{i64_of, fits_i64}
-use Rattle.core_types.specs.Done.{Done, Change, refuses, changes, word}
+use Rattle.core_types.specs.Done.{Done, Change, refuses, changes}
+use Rattle.sequences.specs.Words.{word}
 use Rattle.core_types.specs.declared.effect.Effect.{Effect}
 use Rattle.core_types.specs.declared.refusal.Refusal.TheVariants as refusal
 use Rattle.core_types.specs.declared.reply.Reply.TheVariants as reply

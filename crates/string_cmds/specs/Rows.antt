@@ -2,7 +2,8 @@
 -- reference.
 use Rattle.std.specs.Prelude.{ℕ, pos, negsuc, neg_ℤ, true, List, drop, Option, None, is_some}
 use Rattle.byte_text.specs.Number.{i64_of}
-use Rattle.core_types.specs.Done.{Done, refuses, unless_refused, word}
+use Rattle.core_types.specs.Done.{Done, refuses, unless_refused}
+use Rattle.sequences.specs.Words.{word}
 use Rattle.core_types.specs.declared.refusal.Refusal.{Refusal}
 use Rattle.core_types.specs.declared.refusal.Refusal.TheVariants as refusals
 use Rattle.string_cmds.specs.declared.command.StringCmd.{StringCmd}

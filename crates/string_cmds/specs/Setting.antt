@@ -1,7 +1,8 @@
 -- SET, SETNX and GETSET: they give a key a value, whatever it had, and no deadline.
 use Rattle.std.specs.Prelude.{ℕ, pos, Bool, true, false, not, if◌then◌else◌, List, [], ◌∷◌, codes, Option, Some, None}
 use Rattle.byte_text.specs.Name.{same_name}
-use Rattle.core_types.specs.Done.{Done, Change, answers, changes, word}
+use Rattle.core_types.specs.Done.{Done, Change, answers, changes}
+use Rattle.sequences.specs.Words.{word}
 use Rattle.core_types.specs.declared.effect.Effect.{Effect}
 use Rattle.core_types.specs.declared.refusal.Refusal.{Refusal}
 use Rattle.core_types.specs.declared.refusal.Refusal.TheVariants as refusal

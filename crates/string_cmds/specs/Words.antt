@@ -1,6 +1,7 @@
 -- What the words of a command on a string say, and what a key holds.
 use Rattle.std.specs.Prelude.{ℕ, ℤ, pos, negsuc, List, [], Option, Some, None, unwrap_or}
-use Rattle.core_types.specs.Done.{note_on_key, word}
+use Rattle.core_types.specs.Done.{note_on_key}
+use Rattle.sequences.specs.Words.{word}
 use Rattle.core_types.specs.declared.note.Note.{Note}
 use Rattle.core_types.specs.declared.note.NoteClass.TheVariants as class
 use Rattle.core_types.specs.declared.refusal.Refusal.{Refusal}

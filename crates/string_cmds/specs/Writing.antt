@@ -1,7 +1,8 @@
 -- APPEND and SETRANGE: they write into a string.
 use Rattle.std.specs.Prelude.{ℕ, pos, ◌+◌, ◌-◌, ◌++◌, ◌==◌, ◌&&◌, nat_lt, nat_le, max, if◌then◌else◌, List, [], length, map, slice_index, codes, Option, Some, None}
 use Rattle.std.specs.List.{range_with_len}
-use Rattle.core_types.specs.Done.{Done, Change, answers, refuses, changes, own_words, word}
+use Rattle.core_types.specs.Done.{Done, Change, answers, refuses, changes, own_words}
+use Rattle.sequences.specs.Words.{word}
 use Rattle.core_types.specs.Keyspace.{longest}
 use Rattle.core_types.specs.declared.refusal.Refusal.TheVariants as refusal
 use Rattle.core_types.specs.declared.reply.Reply.TheVariants as reply

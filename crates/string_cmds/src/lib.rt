@@ -20,8 +20,6 @@ mod reading;
 mod refusing;
 mod running;
 mod setting;
-#[cfg(test)]
-mod tests;
 mod words;
 mod writing;
 

@@ -13,8 +13,6 @@ mod laws;
 mod tagged_in;
 mod tagged_out;
 mod take_fault;
-#[cfg(test)]
-mod tests;
 
 pub use laws::taken_as_put;
 pub use tagged_in::TaggedIn;

@@ -12,8 +12,6 @@ mod id;
 mod laws;
 mod letter;
 mod name_fault;
-#[cfg(test)]
-mod tests;
 mod type_name;
 
 pub use id::{id_of, split};

@@ -10,8 +10,6 @@
 
 mod boxed;
 mod laws;
-#[cfg(test)]
-mod tests;
 mod vault;
 
 pub use boxed::Boxed;

@@ -7,7 +7,7 @@ ghost use Rattle.zip_lists.specs.inner.Fronts.{IsItemFront, Announces, IsWidthOf
 
 use crate::number::signed;
 use byte_text::{i64_text, u64_text};
-use core_types::{Blob, NoMemory};
+use sequences::{Blob, NoMemory};
 use std::alloc::Global;
 
 /// What stands where an encoding byte is due.

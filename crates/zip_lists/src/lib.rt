@@ -3,7 +3,7 @@
 //! A ziplist is one byte string: a header, entries, and `FF`. Each entry tells the length of the
 //! one before it, and its item is a string or an integer, which stands for its decimal. `items`
 //! takes exactly the ziplists and gives exactly their items; any other bytes have a first bad
-//! place, and it answers that. Stands on `core_types` and `byte_text`.
+//! place, and it answers that. Stands on `sequences` and `byte_text`.
 //!
 //! It goes over the bytes once and copies each string once. Memory is taken for a string only once
 //! its bytes are known to be there, and nothing is reserved for what a header says.
@@ -15,8 +15,6 @@ mod laws;
 mod number;
 mod previous;
 mod stop;
-#[cfg(test)]
-mod tests;
 mod walk;
 mod ziplist;
 

@@ -3,7 +3,7 @@
 ghost use Rattle.std.specs.Prelude.{◌≡◌};
 ghost use Rattle.zip_lists.specs.declared.stop.ZipStop.TheVariants as stops;
 
-use core_types::NoMemory;
+use sequences::NoMemory;
 
 /// Why bytes gave no items.
 #[derive(Clone, Copy, Debug, PartialEq, Eq)]

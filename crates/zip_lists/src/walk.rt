@@ -10,7 +10,7 @@ ghost use Rattle.zip_lists.specs.inner.Walking.{HasWalked, IsStep, or_here, push
 use crate::content::{Item, read_item};
 use crate::header::{COUNT, LAST, SIZE, count, last};
 use crate::previous::{Length, read_length};
-use core_types::{Args, Blob, NoMemory, Sequence};
+use sequences::{Args, Blob, NoMemory, Sequence};
 use std::alloc::Global;
 
 // The number of entries that says nothing of it.

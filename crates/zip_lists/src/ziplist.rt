@@ -8,7 +8,7 @@ ghost use Rattle.zip_lists.specs.declared.stop.ZipStop.TheVariants as stops;
 use crate::header::judge_header;
 use crate::stop::ZipStop;
 use crate::walk::{Step, Walk};
-use core_types::Args;
+use sequences::Args;
 use std::alloc::Global;
 
 /// The items of a ziplist of RDB version 9, where the bytes are one: a string as it stands, an

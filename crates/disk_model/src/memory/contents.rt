@@ -9,7 +9,7 @@ ghost use Rattle.disk_model.specs.declared.file_name.FileName.{FileName};
 
 use super::deed::{Asked, Came, Deed, front};
 use crate::FileName;
-use core_types::{Blob, NoMemory};
+use sequences::{Blob, NoMemory};
 use std::alloc::Global;
 use std::marker::Model;
 

@@ -5,7 +5,7 @@ ghost use Rattle.disk_model.specs.Memory.{failure};
 ghost use Rattle.disk_model.specs.inner.Recorded.{call_of, outcome_of};
 
 use crate::FileName;
-use core_types::Blob;
+use sequences::Blob;
 
 /// A call that was made, and what came of it.
 #[derive(Drop)]

@@ -13,7 +13,7 @@ use super::contents::Contents;
 use super::deed::Deed;
 use super::disk::{Disk, replay_all};
 use crate::{Choice, FileName};
-use core_types::{Blob, NoMemory};
+use sequences::{Blob, NoMemory};
 use std::alloc::Global;
 use std::marker::Model;
 

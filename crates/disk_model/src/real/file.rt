@@ -7,7 +7,7 @@ ghost use Rattle.disk_model.specs.inner.Synced.{after_change};
 ghost use Rattle.disk_model.specs.inner.RealFolder.{unopened, closed, changed, synced};
 
 use super::synced::Synced;
-use core_types::Blob;
+use sequences::Blob;
 use std::alloc::Global;
 use std::fs::{File, OpenOptions};
 use std::io::{self, ErrorKind, Read, Write};

@@ -9,7 +9,7 @@ ghost use Rattle.disk_model.specs.inner.RealLends.{LendsFile};
 use super::file::RealFile;
 use super::synced::Synced;
 use crate::FileName;
-use core_types::NoMemory;
+use sequences::NoMemory;
 use std::alloc::Global;
 use std::fs::File;
 use std::marker::Model;

@@ -15,7 +15,7 @@ use super::files::RealFiles;
 use super::link::open_home;
 use super::synced::Synced;
 use crate::FileName;
-use core_types::{Blob, NoMemory};
+use sequences::{Blob, NoMemory};
 use std::alloc::Global;
 use std::fs::File;
 use std::io::{self, ErrorKind};

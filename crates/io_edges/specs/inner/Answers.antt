@@ -1,6 +1,6 @@
 -- What the answer of the system's clock makes of the last reading.
 use Rattle.std.specs.Prelude.{ℕ, ◌-◌, ◌/◌, ◌^◌, min}
-use Rattle.core_types.specs.Causes.{one_more}
+use Rattle.sequences.specs.Causes.{one_more}
 use Rattle.io_edges.specs.Real.{LastReading}
 
 -- the milliseconds of this many nanoseconds, or 2^64 - 1 where there are more

@@ -1,6 +1,6 @@
 -- Which call fails, and what is counted.
 use Rattle.std.specs.Prelude.{Contains}
-use Rattle.core_types.specs.Causes.{one_more}
+use Rattle.sequences.specs.Causes.{one_more}
 use Rattle.io_edges.specs.Memory.{Plan}
 
 -- the next call is one that fails

@@ -4,7 +4,7 @@ use Rattle.std.specs.Option.{option_and_then, option_map}
 use Rattle.std.specs.Str.{bytes_eq}
 use Rattle.std.proofs.lemmas.Option.{none-some, same_Some}
 use Rattle.core_types.proofs.KeyLemmas.{changed_kept, removed_kept}
-use Rattle.core_types.specs.Done.{word}
+use Rattle.sequences.specs.Words.{word}
 use Rattle.core_types.specs.Keys.{Entry, Native, entry_at, value_at}
 use Rattle.core_types.specs.Keyspace.{IsString, IsKeyspace, IsValue}
 use Rattle.core_types.specs.declared.note.Note.{Note}

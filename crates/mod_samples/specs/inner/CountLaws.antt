@@ -18,7 +18,7 @@ use Rattle.std.proofs.lemmas.Option.{none-some, same_Some}
 use Rattle.byte_text.proofs.Decimals.{decimal-short, i64_of-decimal}
 use Rattle.byte_text.specs.Number.{i64_of}
 use Rattle.core_types.specs.CommandRow.{CommandRow, takes}
-use Rattle.core_types.specs.Done.{word}
+use Rattle.sequences.specs.Words.{word}
 use Rattle.core_types.specs.Keys.{Native, value_at}
 use Rattle.core_types.specs.Keyspace.{IsString, longest}
 use Rattle.core_types.specs.declared.load_fault.LoadFault.{LoadFault}

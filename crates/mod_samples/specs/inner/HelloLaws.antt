@@ -11,7 +11,7 @@ use Rattle.std.proofs.lemmas.List.{length-map}
 use Rattle.std.proofs.lemmas.Option.{none-some, same_Some}
 use Rattle.byte_text.specs.Number.{i64_of}
 use Rattle.core_types.specs.CommandRow.{CommandRow, takes}
-use Rattle.core_types.specs.Done.{word}
+use Rattle.sequences.specs.Words.{word}
 use Rattle.core_types.specs.Keys.{Native, value_at}
 use Rattle.core_types.specs.declared.load_fault.LoadFault.{LoadFault}
 use Rattle.core_types.specs.declared.load_fault.LoadFault.TheVariants as load_fault

@@ -7,7 +7,7 @@ ghost use Rattle.disk_model.specs.Files.{Files};
 
 use crate::FileName;
 use crate::memory::contents::Contents;
-use core_types::Blob;
+use sequences::Blob;
 use std::marker::Model;
 
 /// The number of the file that each name stands for, where it stands for one.

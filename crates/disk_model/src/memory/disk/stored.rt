@@ -4,7 +4,7 @@ ghost use Rattle.std.specs.Prelude.{◌≡◌, ◌-◌, IfOk, OnOk};
 ghost use Rattle.disk_model.specs.Choices.{steps_of, stepped, after_steps};
 ghost use Rattle.disk_model.specs.Disk.{changed, after_changes, settled, with_change, made_safe, Change as Spoken};
 
-use core_types::{Blob, NoMemory};
+use sequences::{Blob, NoMemory};
 use std::alloc::Global;
 use std::marker::Model;
 

@@ -1,5 +1,5 @@
 -- Serves clause others of others_are_no_changes.
-use Rattle.core_types.specs.Done.{word}
+use Rattle.sequences.specs.Words.{word}
 use Rattle.host_core.specs.Builtins.{builtin_named}
 use Rattle.host_core.proofs.Refused.{no_change}
 use Rattle.host_core.proofs.laws.others_are_no_changes.Goals as goal

@@ -1,5 +1,5 @@
 -- Serves the clauses of on_list_key.
-use Rattle.core_types.specs.Done.{word}
+use Rattle.sequences.specs.Words.{word}
 use Rattle.core_types.specs.Keys.{value_at}
 use Rattle.key_cmds.specs.OneKey.{list_done}
 use Rattle.key_cmds.specs.declared.plain.Plain.TheVariants as plain

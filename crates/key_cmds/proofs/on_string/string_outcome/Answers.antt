@@ -1,7 +1,7 @@
 -- Serves the clauses of string_outcome.
 use Rattle.std.proofs.Common.{◌≡◌, ◌∙◌, None, refl, sym, ap, subst}
 use Rattle.std.specs.Option.{OnSome, option_copied_mut}
-use Rattle.core_types.specs.Done.{word}
+use Rattle.sequences.specs.Words.{word}
 use Rattle.core_types.specs.Keys.{with_changed}
 use Rattle.string_cmds.specs.Rows.{row}
 use Rattle.key_cmds.specs.OneKey.{string_done}

@@ -2,7 +2,8 @@
 use Rattle.std.proofs.Common.{◌≡◌, ◌-◌, ◌∙◌, ℕ, Bool, true, false, List, [], length, codes, sym, ap, subst, Some, arith}
 use Rattle.std.specs.Prelude.{◌==◌}
 use Rattle.std.proofs.lemmas.Bool.Decides.{nat_tests}
-use Rattle.core_types.specs.Done.{Does, word}
+use Rattle.core_types.specs.Done.{Does}
+use Rattle.sequences.specs.Words.{word}
 use Rattle.core_types.specs.declared.outcome.After.TheVariants as after
 use Rattle.core_types.specs.declared.outcome.Outcome.{Outcome}
 use Rattle.core_types.specs.declared.reply.Reply.{Reply}

@@ -1,7 +1,7 @@
 -- Serves the clause of range.
 use Rattle.std.proofs.Common.{◌≡◌, Some, sym, ap, ◌∙◌}
 use Rattle.byte_text.specs.Number.{i64_of}
-use Rattle.core_types.specs.Done.{word}
+use Rattle.sequences.specs.Words.{word}
 use Rattle.module_laws.specs.declared.verdict.Verdict.TheVariants as verdict
 use Rattle.mod_samples.specs.HelloType.{natural, number_array, numbers_at}
 use Rattle.mod_samples.proofs.HelloRuns.{numbers_found}

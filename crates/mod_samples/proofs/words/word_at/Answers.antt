@@ -2,7 +2,7 @@
 use Rattle.std.proofs.Common.{[], ap, sym, ◌∙◌, unwrap_or}
 use Rattle.std.specs.Option.{option_copied}
 use Rattle.std.proofs.lemmas.Option.{get_or_from_slice_get, unwrap_or-slice_get}
-use Rattle.core_types.specs.Done.{word}
+use Rattle.sequences.specs.Words.{word}
 use Rattle.mod_samples.proofs.words.word_at.Goals as goal
 
 pub returns-in-Some : goal.returns-in-Some

@@ -16,7 +16,7 @@ use Rattle.mod_samples.specs.HelloNumbers.{saved_numbers}
 use Rattle.mod_samples.specs.HelloType.{hello_name, hellotype, list_at, numbers_at}
 use Rattle.mod_samples.specs.Rising.{inserted}
 use Rattle.mod_samples.proofs.HelloRuns.{HasLength, has_length, length-inserted}
-use Rattle.core_types.specs.Done.{word}
+use Rattle.sequences.specs.Words.{word}
 use Rattle.mod_samples.proofs.Running.{key_short, stops, tells}
 use Rattle.mod_samples.proofs.hello_type.HelloType.insert.Goals as goal
 

@@ -2,7 +2,7 @@
 use Rattle.std.proofs.Common.{◌≡◌, true, false, sym, ap, ◌∙◌}
 use Rattle.std.specs.Str.{bytes_eq}
 use Rattle.byte_text.specs.Number.{i64_of}
-use Rattle.core_types.specs.Done.{word}
+use Rattle.sequences.specs.Words.{word}
 use Rattle.mod_samples.specs.HelloType.{insert_name, lengths, natural, numbers_at, range_name, ranges}
 use Rattle.mod_samples.specs.Words.{own}
 use Rattle.mod_samples.proofs.HelloRuns.{lengths_only, ranges_only}

@@ -2,7 +2,7 @@
 use Rattle.std.proofs.Common.{◌≡◌, pos, Some, Ok, refl, sym, ap, ◌∙◌}
 use Rattle.std.specs.Prelude.{not}
 use Rattle.std.specs.Option.{is_none, option_map}
-use Rattle.core_types.specs.Done.{word}
+use Rattle.sequences.specs.Words.{word}
 use Rattle.core_types.specs.declared.reply.Reply.TheVariants as reply
 use Rattle.module_laws.specs.Meaning.{type_of}
 use Rattle.module_laws.specs.Runs.{Runs, scene}

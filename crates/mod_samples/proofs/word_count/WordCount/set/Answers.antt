@@ -1,7 +1,7 @@
 -- Serves clause runs of WordCount::set, and what it owes to store.
 use Rattle.std.proofs.Common.{◌≡◌, [], ◌∷◌, refl, ap, ◌∙◌}
 use Rattle.std.specs.Prelude.{codes}
-use Rattle.core_types.specs.Done.{word}
+use Rattle.sequences.specs.Words.{word}
 use Rattle.module_laws.specs.Meaning.{type_of}
 use Rattle.module_laws.specs.Told.{with_effect}
 use Rattle.module_laws.specs.inner.Plain.{plain_state}

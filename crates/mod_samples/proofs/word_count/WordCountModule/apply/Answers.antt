@@ -1,6 +1,6 @@
 -- Serves clause applies of WordCount::apply, and what it owes to apply_set and to remove.
 use Rattle.std.proofs.Common.{◌≡◌, Some, true, refl, sym, ap, ◌∙◌, arith}
-use Rattle.core_types.specs.Done.{word}
+use Rattle.sequences.specs.Words.{word}
 use Rattle.mod_samples.specs.CountParts.{saved_counts}
 use Rattle.mod_samples.specs.Counts.{some_counts, without_word}
 use Rattle.mod_samples.proofs.CountRuns.{counts_rising, drop_edit, drop_there, no_edit, some_without, to_set_count, value_is}

@@ -1,7 +1,7 @@
 -- Serves clause runs of WordCount::exec, and what it owes to put_count and drop_word.
 use Rattle.std.proofs.Common.{◌≡◌, false, sym, ap, ◌∙◌, subst}
 use Rattle.std.specs.Str.{bytes_eq}
-use Rattle.core_types.specs.Done.{word}
+use Rattle.sequences.specs.Words.{word}
 use Rattle.module_laws.specs.Limits.{IsWithinLimits}
 use Rattle.mod_samples.specs.WordCount.{add_name, counts_at, drop_name, gets, set_name}
 use Rattle.mod_samples.specs.Words.{own}

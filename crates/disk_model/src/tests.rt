@@ -1,2 +1,0 @@
-mod folder;
-mod memory;

@@ -1,6 +1,0 @@
--- Serves what the tests ask of step: what a reader takes is a request.
-use Rattle.std.proofs.Common.{Ok, ap}
-use Rattle.durable_host.proofs.tests.send.Goals as goal
-
-pub step-requires : goal.step-requires
-step-requires c = record { takable = (c.in_ok-words.ensures.request c.in-Request.words (ap Ok c.in-Request.is)).spells.0 }

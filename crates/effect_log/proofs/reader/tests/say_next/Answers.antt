@@ -1,5 +1,0 @@
-use Rattle.effect_log.proofs.reader.tests.say_next.Goals as goal
-
-pub say_taken-requires : goal.say_taken-requires
-say_taken-requires c =
-    let taken = c.in_ok-end.ensures.unit c.in-Unit.effects (cc) in taken.count

@@ -1,0 +1,16 @@
+//! Tests of the crates that stand by themselves, over their public calls: tickets, the registry of
+//! commands, sources, sinks and clocks, and the forms of a dump. Rows are from other programs and
+//! from the descriptions of the forms; and calls which take memory answer with it where there is
+//! enough.
+#![tactic(auto)]
+
+#[cfg(test)]
+mod dump;
+#[cfg(test)]
+mod edges;
+#[cfg(test)]
+mod registry;
+#[cfg(test)]
+mod tickets;
+#[cfg(test)]
+mod ziplists;

@@ -1,0 +1,4 @@
+pub mod Shelves
+pub mod CounterRuns
+pub mod Lines
+pub mod TextKeys

@@ -1,0 +1,5 @@
+pub mod Least
+pub mod Counter
+pub mod CounterLaws
+pub mod Shelf
+pub mod Texts

@@ -1,0 +1,19 @@
+//! Byte strings and lists that grow where memory may run out.
+//!
+//! A `Blob` is seen by contracts as its bytes, a `Sequence` as its items. Every call that takes
+//! memory answers `NoMemory` alone, and an `Err` leaves its object as it was. Appending is
+//! amortized O(1) an item; nothing else here costs more than the bytes it copies. A `Duplicate` is
+//! what can be copied so.
+#![tactic(auto)]
+
+mod blob;
+mod duplicate;
+mod no_memory;
+mod sequence;
+mod words;
+
+pub use blob::Blob;
+pub use duplicate::Duplicate;
+pub use no_memory::NoMemory;
+pub use sequence::{Sequence, duplicate_items};
+pub use words::{Args, Commands};
