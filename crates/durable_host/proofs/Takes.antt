@@ -25,7 +25,7 @@ use Rattle.host_core.specs.declared.connection.ConnectionCmd.TheVariants as conn
 use Rattle.host_core.specs.Builtins.{builtin_named, builtin_row}
 use Rattle.host_core.specs.Clients.{changed, client_at, is_served, with_new, without_client}
 use Rattle.host_core.specs.Events.{client_goes, refused_stream, step}
-use Rattle.host_core.specs.Serving.{quits, served, served_as, served_by}
+use Rattle.host_core.specs.Serving.{closed_at_quit, served, served_as, served_by}
 use Rattle.host_core.specs.State.{Served, State, Step, answers, becomes, stays}
 use Rattle.host_core.proofs.Replies.{at_changed, last_changed}
 use Rattle.durable_host.specs.Taking.{IsButTaken, SameButTaken}
@@ -123,7 +123,7 @@ module _ (keys : Keys) (moment : ℕ) (a b : Roll) (rolls : Rolls a b) where
   same_state : SameButTaken (state a) (state b)
   same_state = record { keys = refl; moment = refl; last = rolls.last; each = rolls.each }
 
-  same_quits : (cmd : ConnectionCmd) (c : ℕ) (reply : Reply) → SameServing (record { state = quits cmd c (state a); reply = reply; effects = [] }) (record { state = quits cmd c (state b); reply = reply; effects = [] })
+  same_quits : (cmd : ConnectionCmd) (c : ℕ) (reply : Reply) → SameServing (record { state = closed_at_quit cmd c (state a); reply = reply; effects = [] }) (record { state = closed_at_quit cmd c (state b); reply = reply; effects = [] })
   same_quits connection.Quit c reply = record { keys = refl; moment = refl; rolls = rolls_changed closes closes_apart c a b rolls; reply = refl; effects = refl }
   same_quits connection.Ping c reply = record { keys = refl; moment = refl; rolls = rolls; reply = refl; effects = refl }
   same_quits connection.Echo c reply = record { keys = refl; moment = refl; rolls = rolls; reply = refl; effects = refl }

@@ -27,7 +27,7 @@ use Rattle.host_core.specs.Builtins.{builtin_named, builtin_row}
 use Rattle.host_core.specs.Clients.{client_at, changed, is_served, with_new, without_client}
 use Rattle.host_core.specs.Events.{step, client_goes, refused_stream}
 use Rattle.host_core.specs.Laws.{AllJoined, CanTake, StepsApart, with_taken}
-use Rattle.host_core.specs.Serving.{quits, served, served_as, served_by}
+use Rattle.host_core.specs.Serving.{closed_at_quit, served, served_as, served_by}
 use Rattle.host_core.specs.State.{State, Served, Step, answers, becomes, stays}
 use Rattle.host_core.proofs.Replies.{at_changed, last_changed}
 use Rattle.host_core.proofs.Steps.{Leaves, as_leaves, closed_leaves}
@@ -137,7 +137,7 @@ module _ (k n : ℕ) where
   abbrev step_taken : Step State → Step State
   step_taken next = record next { state = with_taken k n next.state }
 
-  quits_apart : (cmd : ConnectionCmd) (c : ℕ) (state : State) → quits cmd c (with_taken k n state) ≡ with_taken k n (quits cmd c state)
+  quits_apart : (cmd : ConnectionCmd) (c : ℕ) (state : State) → closed_at_quit cmd c (with_taken k n state) ≡ with_taken k n (closed_at_quit cmd c state)
   quits_apart connection.Quit c state = ap (λ clients. record state { clients = clients }) (swap (passes n) closes k c state.clients (λ it there. refl))
   quits_apart connection.Ping c state = refl
   quits_apart connection.Echo c state = refl

@@ -15,7 +15,7 @@ use Rattle.host_core.specs.Builtins.{builtin_named, builtin_row}
 use Rattle.host_core.specs.Clients.{client_at, is_served}
 use Rattle.host_core.specs.Events.{client_goes, step}
 use Rattle.host_core.specs.Expiry.{expired_at}
-use Rattle.host_core.specs.Serving.{quits, served, served_as, served_by, type_name}
+use Rattle.host_core.specs.Serving.{closed_at_quit, served, served_as, served_by, type_name}
 use Rattle.host_core.specs.State.{Served, State, Step}
 use Rattle.host_core.specs.declared.builtin.Builtin.{Builtin}
 use Rattle.host_core.specs.declared.builtin.Builtin.TheVariants as builtin
@@ -42,7 +42,7 @@ module _ (P : Keys → List Effect → Type 0) (state : State) where
 
   -- where P holds of the keys as they are and no change
   module _ (same : P state.keys []) where
-    quits_same : (cmd : ConnectionCmd) (client : ℕ) → P (quits cmd client state).keys []
+    quits_same : (cmd : ConnectionCmd) (client : ℕ) → P (closed_at_quit cmd client state).keys []
     quits_same connection.Quit client = same
     quits_same _ client = same
 

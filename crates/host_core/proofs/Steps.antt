@@ -20,7 +20,7 @@ use Rattle.host_core.specs.Clients.{client_at, closed, is_served, with_new}
 use Rattle.host_core.specs.Events.{step, client_goes, refused_stream}
 use Rattle.host_core.specs.Fold.{bytes_to}
 use Rattle.host_core.specs.Laws.{AllJoined, IsTold, TellsReplies}
-use Rattle.host_core.specs.Serving.{served, served_as, served_by, quits}
+use Rattle.host_core.specs.Serving.{closed_at_quit, served, served_as, served_by}
 use Rattle.host_core.specs.State.{State, Served, Step, answers, becomes, stays}
 use Rattle.host_core.proofs.Replies.{BecomesAt, LeavesReplies, Joined, at_changed, at_same, closing_leaves, nothing_leaves, joined-changed, joined-new, joined-without, told_gone, told_new, told_nothing, told_reply}
 
@@ -41,7 +41,7 @@ either_leaves : (c : ℕ) (roll : Roll) (b : Bool) (x y : Served) → Leaves c r
 either_leaves c roll true x y one other = one
 either_leaves c roll false x y one other = other
 
-quits_leaves : (cmd : ConnectionCmd) (c : ℕ) (state : State) → Leaves c state.clients (quits cmd c state).clients
+quits_leaves : (cmd : ConnectionCmd) (c : ℕ) (state : State) → Leaves c state.clients (closed_at_quit cmd c state).clients
 quits_leaves connection.Quit c state = closed_leaves c state.clients
 quits_leaves connection.Ping c state = same_leaves c state.clients
 quits_leaves connection.Echo c state = same_leaves c state.clients

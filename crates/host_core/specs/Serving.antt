@@ -25,14 +25,14 @@ runs run state =
     record { state = record state { keys = run.keys }; reply = run.reply; effects = run.effects }
 
 -- after QUIT the client is served no longer
-abbrev pub quits : ConnectionCmd → ℕ → State → State
-quits connection.Quit client state = record state { clients = closed client state.clients }
-quits _ client state = state
+abbrev pub closed_at_quit : ConnectionCmd → ℕ → State → State
+closed_at_quit connection.Quit client state = record state { clients = closed client state.clients }
+closed_at_quit _ client state = state
 
 -- a command whose number of words is taken
 abbrev pub served_by : Builtin → ℕ → List (List ℕ) → State → Served
 served_by (builtin.Connection cmd) client words state =
-    replies (connection_reply cmd words) (quits cmd client state)
+    replies (connection_reply cmd words) (closed_at_quit cmd client state)
 served_by (builtin.Keys cmd) client words state =
     runs (does type_name state.moment cmd state.keys words) state
 

@@ -15,7 +15,7 @@ use Rattle.host_core.specs.Fold as fold
 use Rattle.durable_host.specs.Host.{Host}
 use Rattle.durable_host.specs.Kept.{Kept, state_now}
 use Rattle.server_shell.specs.Faults.{IsHostStop}
-use Rattle.server_shell.specs.Making.{Breaks, Makes, taken_by, tells, with_events, writes}
+use Rattle.server_shell.specs.Making.{MakesAll, MakesSome, taken_by, tells, with_events, writes}
 use Rattle.server_shell.specs.Pipe.{Ends, Outside, PipeEnds, SourceEnds, StopsFirst, StopsLast, StopsWithin, is_over}
 use Rattle.server_shell.specs.Requests.{Serves, ServesPart, ServesToEnd}
 use Rattle.server_shell.specs.Runs.{stream_events}
@@ -42,7 +42,7 @@ module _ {D : Type 0} (told : D → Told) (a b : Host D) (got : Option (List ℕ
   so_far = tells a.kept.opening a.kept.events
 
   -- client 1 came
-  module _ (makes : Makes told came a b) (same : taken_by b ≡ taken_by a) where
+  module _ (makes : MakesAll told came a b) (same : taken_by b ≡ taken_by a) where
     silent : tells (state_now a.kept) came ≡ []
     silent = ap (λ bytes. bytes ++ []) (comer_told 1 1 (state_now a.kept))
 
@@ -72,7 +72,7 @@ module _ {D : Type 0} (told : D → Told) (a b : Host D) (got : Option (List ℕ
 
 module _ {D : Type 0} (told : D → Told) (a b c : Host D) (events : List Event) (got got' : Option (List ℕ)) (one : Serves told events a b got got') where
   -- client 1 went
-  went : Makes told gone b c → ServesToEnd told (events ++ gone) a c got got'
+  went : MakesAll told gone b c → ServesToEnd told (events ++ gone) a c got got'
   went makes =
       let now : state_now b.kept ≡ fold.after step (state_now a.kept) events = ap state_now one.kept ∙ now_after a.kept events in
       let so_far = tells b.kept.opening b.kept.events in
@@ -95,7 +95,7 @@ module _ {D : Type 0} (told : D → Told) (a b c : Host D) (events : List Event)
       }
 
   -- or the host stopped over it
-  stayed : Breaks told gone b c → ServesPart told events gone a c got got'
+  stayed : MakesSome told gone b c → ServesPart told events gone a c got got'
   stayed breaks =
       subst (λ done. ServesPart told done gone a c got got') (append-nil events)
       (serves_part told a b c events [] got got' got' one gone (part_broken told gone b c got' one.caught_up breaks))
@@ -201,7 +201,7 @@ module _ {D : Type 0} (told : D → Told) (a d : Host D) (o : Outside) where
 
 module _ {D : Type 0} (told : D → Told) (a b : Host D) (caught : IsCaughtUp told a) where
   -- the host stopped as client 1 came
-  pub stops_first : (o : Outside) (left : Option (List ℕ)) (clock : ClockTold) (got : Option (List ℕ)) → o ≡ record { left = left; left' = left; clock = clock; clock' = clock; got = got; got' = got } → (fault : Status) → StopsOver (event.Join 1) fault → Breaks told came a b → PipeEnds fault told a b o
+  pub stops_first : (o : Outside) (left : Option (List ℕ)) (clock : ClockTold) (got : Option (List ℕ)) → o ≡ record { left = left; left' = left; clock = clock; clock' = clock; got = got; got' = got } → (fault : Status) → StopsOver (event.Join 1) fault → MakesSome told came a b → PipeEnds fault told a b o
   stops_first o left clock got here fault is breaks = subst (PipeEnds fault told a b) (sym here) (at_first left clock got)
     where
       at_first : (left : Option (List ℕ)) (clock : ClockTold) (got : Option (List ℕ)) → PipeEnds fault told a b (record { left = left; left' = left; clock = clock; clock' = clock; got = got; got' = got })
@@ -230,13 +230,13 @@ module _ {D : Type 0} (told : D → Told) (a b c : Host D) (o : Outside) (come :
 
   module _ (d : Host D) (over : is_over end ≡ true) where
     -- it went
-    pub goes_behind : Makes told gone c d → PipeEnds end told a d o
+    pub goes_behind : MakesAll told gone c d → PipeEnds end told a d o
     goes_behind makes =
         over_as o Source (Whole told a d o) Source (Going told a d o) SourceStop (Stop told a d o end)
         (λ events served. went told a c d (event.Join 1 ∷ events) o.got o.got' (behind events served) makes) end over ends
 
     -- the host stopped over it
-    pub stops_behind : (fault : Status) → StopsOver (event.Gone 1) fault → Breaks told gone c d → PipeEnds fault told a d o
+    pub stops_behind : (fault : Status) → StopsOver (event.Gone 1) fault → MakesSome told gone c d → PipeEnds fault told a d o
     stops_behind fault is breaks =
         host_stops o (Whole told a d o) (Going told a d o) (Stop told a d o fault) fault is.host
         (inr (inr (record {

@@ -21,7 +21,7 @@ use Rattle.durable_host.specs.Crash.{HoldsFrom}
 use Rattle.durable_host.specs.Host.{Host}
 use Rattle.durable_host.specs.Kept.{Kept, state_now}
 use Rattle.durable_host.proofs.Histories.{holds_beyond}
-use Rattle.server_shell.specs.Making.{Breaks, IsLogged, Makes, with_events, writes}
+use Rattle.server_shell.specs.Making.{IsLogged, MakesAll, MakesSome, with_events, writes}
 
 -- ---- a file that is appended to
 
@@ -102,7 +102,7 @@ module _ {D : Type 0} (told : D → Told) (a b c : Host D) (first second : List 
       (fewer_safe (with_events (first ++ second) a.kept) a.safe b.safe (told b.dir) (told c.dir) safe
       (subst (λ k. LeavesOnly (told b.dir) (told c.dir) (HoldsFrom k b.safe)) (ap (with_events second) kept ∙ kept_twice a.kept first second) other))
 
-  pub makes_both : Makes told first a b → Makes told second b c → Makes told (first ++ second) a c
+  pub makes_both : MakesAll told first a b → MakesAll told second b c → MakesAll told (first ++ second) a c
   makes_both one other = record {
     runs = other.runs;
     kept = other.kept ∙ ap (with_events second) one.kept ∙ kept_twice a.kept first second;
@@ -115,7 +115,7 @@ module _ {D : Type 0} (told : D → Told) (a b c : Host D) (first second : List 
     crash = both_crash one.kept one.safe one.crash other.crash;
   }
 
-  pub breaks_later : Makes told first a b → Breaks told second b c → Breaks told (first ++ second) a c
+  pub breaks_later : MakesAll told first a b → MakesSome told second b c → MakesSome told (first ++ second) a c
   breaks_later one other = record {
     made = first ++ other.made;
     rest = other.rest;
@@ -144,7 +144,7 @@ pub whole_size : {D : Type 0} (told : D → Told) (a b : Host D) (events all : L
 unfolding logged_whole
 whole_size told a b events all are log = refl
 
-pub breaks_sooner : {D : Type 0} (told : D → Told) (a b : Host D) (first second : List Event) → Breaks told first a b → Breaks told (first ++ second) a b
+pub breaks_sooner : {D : Type 0} (told : D → Told) (a b : Host D) (first second : List Event) → MakesSome told first a b → MakesSome told (first ++ second) a b
 breaks_sooner told a b first second one = record {
   made = one.made;
   rest = one.rest ++ second;

@@ -34,7 +34,7 @@ use Rattle.durable_host.proofs.Ends.{same_past}
 use Rattle.durable_host.proofs.Histories.{count_next, state_next}
 use Rattle.durable_host.proofs.Streams.{listed_freed}
 use Rattle.server_shell.specs.Faults.{status_of_fault}
-use Rattle.server_shell.specs.Making.{Breaks, Makes, taken_by}
+use Rattle.server_shell.specs.Making.{MakesAll, MakesSome, taken_by}
 use Rattle.server_shell.specs.inner.Stopping.{AsksNothing, StopsOver}
 use Rattle.server_shell.specs.Stream.{StaysOn}
 use Rattle.server_shell.proofs.Joining.{nothing_appended}
@@ -204,7 +204,7 @@ module _ {D : Type 0} (told : D → Told) (before after : Host D) (happens : Eve
     pub taken_one : StaysOn happens → taken_by after ≡ taken_by before
     taken_one stays_on = frees_taken before.held after.held (stays stays_on) happens happened.frees
 
-    pub made_one : Makes told (happens ∷ []) before after
+    pub made_one : MakesAll told (happens ∷ []) before after
     made_one = record {
       runs = happened.runs;
       kept = happened.kept;
@@ -218,7 +218,7 @@ module _ {D : Type 0} (told : D → Told) (before after : Host D) (happens : Eve
     }
 
   -- none of it is kept, or all of it
-  nothing_kept : after.ending ≡ before.ending → after.kept ≡ before.kept → before.safe ≤ after.safe → Become (with_appended Log []) (files_told (told before.dir)) (files_told (told after.dir)) → Breaks told (happens ∷ []) before after
+  nothing_kept : after.ending ≡ before.ending → after.kept ≡ before.kept → before.safe ≤ after.safe → Become (with_appended Log []) (files_told (told before.dir)) (files_told (told after.dir)) → MakesSome told (happens ∷ []) before after
   nothing_kept ending kept safe log = record {
     made = [];
     rest = happens ∷ [];
@@ -232,7 +232,7 @@ module _ {D : Type 0} (told : D → Told) (before after : Host D) (happens : Eve
   }
 
   all_kept : after.ending ≡ before.ending → after.stopped ≡ Some cause.Dir → after.kept ≡ with_event happens before.kept → before.safe ≤ after.safe
-      → (size : ℕ) × Become (with_appended Log (take size (unit (changes_by happens before.kept)))) (files_told (told before.dir)) (files_told (told after.dir)) → Breaks told (happens ∷ []) before after
+      → (size : ℕ) × Become (with_appended Log (take size (unit (changes_by happens before.kept)))) (files_told (told before.dir)) (files_told (told after.dir)) → MakesSome told (happens ∷ []) before after
   all_kept ending stopped kept safe front = record {
     made = happens ∷ [];
     rest = [];
@@ -250,7 +250,7 @@ module _ {D : Type 0} (told : D → Told) (before after : Host D) (happens : Eve
   }
 
   if_begun : after.ending ≡ before.ending → after.stopped ≡ Some cause.Dir → (effects : List Effect) → changes_by happens before.kept ≡ effects → after.kept ≡ kept_if_begun effects happens before.kept → before.safe ≤ after.safe
-      → (size : ℕ) × Become (with_appended Log (take size (unit effects))) (files_told (told before.dir)) (files_told (told after.dir)) → Breaks told (happens ∷ []) before after
+      → (size : ℕ) × Become (with_appended Log (take size (unit effects))) (files_told (told before.dir)) (files_told (told after.dir)) → MakesSome told (happens ∷ []) before after
   if_begun ending stopped [] are kept safe front =
       nothing_kept ending kept safe (subst (λ text. Become (with_appended Log text) (files_told (told before.dir)) (files_told (told after.dir))) (take-nil front.0) front.1)
   if_begun ending stopped (effect ∷ more) are kept safe front =
@@ -265,7 +265,7 @@ module _ {D : Type 0} (told : D → Told) (before after : Host D) (happens : Eve
   why_one fault.NumbersSpent stops = record { host = tt; own = λ silent. tt }
   why_one (fault.Stopped why) stops = absurd (none-some why (sym ran ∙ stops.0))
 
-  pub broken_one : (why : HostFault) → Stops told why happens before after → Breaks told (happens ∷ []) before after
+  pub broken_one : (why : HostFault) → Stops told why happens before after → MakesSome told (happens ∷ []) before after
   broken_one fault.Dir stops =
       if_begun stops.stops.ending stops.stops.stops (changes_by happens before.kept) refl stops.kept (omega (arith, stops.stops.safe))
       (log_failed happens (changes_by happens before.kept) (told before.dir) (told after.dir) stops.fails)

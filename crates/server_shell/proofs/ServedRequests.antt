@@ -19,7 +19,7 @@ use Rattle.host_core.specs.State.{State}
 use Rattle.durable_host.specs.Crash.{HoldsFrom}
 use Rattle.durable_host.specs.Host.{Host}
 use Rattle.durable_host.specs.Kept.{Kept, event_count, state_now}
-use Rattle.server_shell.specs.Making.{Breaks, Makes, open_to, safe_bytes, taken_by, tells, with_events, writes}
+use Rattle.server_shell.specs.Making.{MakesAll, MakesSome, open_to, safe_bytes, taken_by, tells, with_events, writes}
 use Rattle.server_shell.specs.Requests.{Serves, ServesPart}
 use Rattle.server_shell.specs.Runs.{request_events}
 use Rattle.server_shell.specs.Stream.{IsCaughtUp, IsOneStream, StaysOn}
@@ -99,7 +99,7 @@ module _ {D : Type 0} (told : D → Told) (before after : Host D) (made : List E
 -- ---- a request that the host did not make to its end
 
 module _ {D : Type 0} (told : D → Told) (events : List Event) (before after : Host D) (got : Option (List ℕ)) (caught : IsCaughtUp told before) where
-  pub part_broken : Breaks told events before after → ServesPart told [] events before after got got
+  pub part_broken : MakesSome told events before after → ServesPart told [] events before after got got
   part_broken breaks =
       let still = still_safe told before after breaks.made caught breaks.kept breaks.safe in
       record {
@@ -123,7 +123,7 @@ module _ {D : Type 0} (told : D → Told) (events : List Event) (before after : 
 -- ---- a request of which all events were made, and what they told is handed out
 
 module _ {D : Type 0} (told : D → Told) (events : List Event) (before flushed after : Host D) (caught : IsCaughtUp told before) (stays : AllByRecursion StaysOn events)
-    (makes : Makes told events before flushed) (same_taken : taken_by flushed ≡ taken_by before)
+    (makes : MakesAll told events before flushed) (same_taken : taken_by flushed ≡ taken_by before)
     (opened : open_to flushed ≡ length (tells flushed.kept.opening flushed.kept.events)) (safe : flushed.safe ≡ event_count flushed.kept) where
   abbrev so_far_told : List ℕ
   so_far_told = tells before.kept.opening before.kept.events
@@ -229,30 +229,30 @@ module _ {D : Type 0} (told : D → Told) (a b c d : Host D) where
     abbrev arrival : List Event
     arrival = event.Arrive 1 words ∷ []
 
-    pub tick_breaks : Breaks told tick a b → Breaks told (request_events moment words) a b
+    pub tick_breaks : MakesSome told tick a b → MakesSome told (request_events moment words) a b
     tick_breaks breaks = breaks_sooner told a b tick (arrival ++ event.Flush ∷ []) breaks
 
-    pub arrival_breaks : Makes told tick a b → Breaks told arrival b c → Breaks told (request_events moment words) a c
+    pub arrival_breaks : MakesAll told tick a b → MakesSome told arrival b c → MakesSome told (request_events moment words) a c
     arrival_breaks makes breaks = breaks_sooner told a c (tick ++ arrival) (event.Flush ∷ []) (breaks_later told a b c tick arrival makes breaks)
 
-    pub flush_breaks : Makes told tick a b → Makes told arrival b c → Breaks told (event.Flush ∷ []) c d → Breaks told (request_events moment words) a d
+    pub flush_breaks : MakesAll told tick a b → MakesAll told arrival b c → MakesSome told (event.Flush ∷ []) c d → MakesSome told (request_events moment words) a d
     flush_breaks first second breaks = breaks_later told a c d (tick ++ arrival) (event.Flush ∷ []) (makes_both told a b c tick arrival first second) breaks
 
-    pub request_made : Makes told tick a b → Makes told arrival b c → Makes told (event.Flush ∷ []) c d → Makes told (request_events moment words) a d
+    pub request_made : MakesAll told tick a b → MakesAll told arrival b c → MakesAll told (event.Flush ∷ []) c d → MakesAll told (request_events moment words) a d
     request_made first second third = makes_both told a c d (tick ++ arrival) (event.Flush ∷ []) (makes_both told a b c tick arrival first second) third
 
-  pub one_more_stays : (happens : Event) → StaysOn happens → IsOneStream a.kept → Makes told (happens ∷ []) a b → IsOneStream b.kept
+  pub one_more_stays : (happens : Event) → StaysOn happens → IsOneStream a.kept → MakesAll told (happens ∷ []) a b → IsOneStream b.kept
   one_more_stays happens on one makes = subst IsOneStream (sym makes.kept) (goes_on_one a.kept (happens ∷ []) one (on, tt))
 
 module _ {D : Type 0} (told : D → Told) (a b c : Host D) (kind : BadRequest) where
   abbrev bad : List Event
   bad = event.Malformed 1 kind ∷ []
 
-  pub bad_breaks : Breaks told bad a b → Breaks told (bad ++ event.Flush ∷ []) a b
+  pub bad_breaks : MakesSome told bad a b → MakesSome told (bad ++ event.Flush ∷ []) a b
   bad_breaks breaks = breaks_sooner told a b bad (event.Flush ∷ []) breaks
 
-  pub bad_flush_breaks : Makes told bad a b → Breaks told (event.Flush ∷ []) b c → Breaks told (bad ++ event.Flush ∷ []) a c
+  pub bad_flush_breaks : MakesAll told bad a b → MakesSome told (event.Flush ∷ []) b c → MakesSome told (bad ++ event.Flush ∷ []) a c
   bad_flush_breaks makes breaks = breaks_later told a b c bad (event.Flush ∷ []) makes breaks
 
-  pub refusal_made : Makes told bad a b → Makes told (event.Flush ∷ []) b c → Makes told (bad ++ event.Flush ∷ []) a c
+  pub refusal_made : MakesAll told bad a b → MakesAll told (event.Flush ∷ []) b c → MakesAll told (bad ++ event.Flush ∷ []) a c
   refusal_made first second = makes_both told a b c bad (event.Flush ∷ []) first second

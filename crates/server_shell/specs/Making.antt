@@ -38,7 +38,7 @@ open_to host = may_of (listed host.held.register 1)
 -- The events were made, all of them: they are kept, the log goes on with what they wrote, and
 -- whatever a crash leaves on the way restarts to the keys after some of all events, those that were
 -- safe before among them.
-pub record Makes {D : Type 0} (told : D → Told) (events : List Event) (before after : Host D)
+pub record MakesAll {D : Type 0} (told : D → Told) (events : List Event) (before after : Host D)
     : Type 0 where
   pub runs : after.stopped ≡ None
   pub kept : after.kept ≡ with_events events before.kept
@@ -60,7 +60,7 @@ pub record IsLogged {D : Type 0} (told : D → Told) (events : List Event) (befo
       ⊎ (length (writes (state_now before.kept) events) ≤ size)
 
 -- Some of the events were made, in order from the first, and then the host stopped.
-pub record Breaks {D : Type 0} (told : D → Told) (events : List Event) (before after : Host D)
+pub record MakesSome {D : Type 0} (told : D → Told) (events : List Event) (before after : Host D)
     : Type 0 where
   pub made : List Event
   pub rest : List Event

@@ -7,7 +7,7 @@ ghost use Rattle.resp_codec.specs.Spelling.{IsRequest};
 ghost use Rattle.durable_host.specs.Host.{KeepsHistory};
 ghost use Rattle.durable_host.specs.Steps.{IsTakable};
 ghost use Rattle.server_shell.specs.Faults.{IsHostStop, IsServeStop, StandsAt, counted_by, dir_faults, end_of, faults_of};
-ghost use Rattle.server_shell.specs.Making.{Breaks, Makes, taken_by};
+ghost use Rattle.server_shell.specs.Making.{MakesAll, MakesSome, taken_by};
 ghost use Rattle.server_shell.specs.Requests.{AtMoment, Serves, ServesPart};
 ghost use Rattle.server_shell.specs.Runs.{end_events, request_events};
 ghost use Rattle.server_shell.specs.Stream.{IsCaughtUp, IsOneStream, StaysOn};
@@ -78,9 +78,9 @@ pub(crate) fn serve_event<D: Dir>(host: &mut DurableHost<D>, event: Event) -> Re
     requires takable { IsTakable event }
     requires runs { host.old.stopped ≡ None }
     requires keeps { KeepsHistory D.told host.old }
-    ensures made { OnOk result (Makes D.told (event ∷ []) host.old host.new) }
+    ensures made { OnOk result (MakesAll D.told (event ∷ []) host.old host.new) }
     ensures taken { OnOk result (StaysOn event → taken_by host.new ≡ taken_by host.old) }
-    ensures broken { OnErr result (Breaks D.told (event ∷ []) host.old host.new) }
+    ensures broken { OnErr result (MakesSome D.told (event ∷ []) host.old host.new) }
     ensures counts { (D.told host.new.dir).faults
         ≡ dir_faults (end_of result) (D.told host.old.dir).faults }
     ensures why { OnErr result (StopsOver event (end_of result)) }
@@ -96,7 +96,7 @@ fn flush<D: Dir>(host: &mut DurableHost<D>) -> Result<(), Status>
     requires keeps { KeepsHistory D.told host.old }
     requires one { IsOneStream host.old.kept }
     ensures flushed { OnOk result (Flushes D.told host.old host.new) }
-    ensures broken { OnErr result (Breaks D.told (event.Flush ∷ []) host.old host.new) }
+    ensures broken { OnErr result (MakesSome D.told (event.Flush ∷ []) host.old host.new) }
     ensures counts { (D.told host.new.dir).faults
         ≡ dir_faults (end_of result) (D.told host.old.dir).faults }
     ensures why { OnErr result (IsHostStop (end_of result)) }
