@@ -205,8 +205,9 @@ fn told(alloc: Global) -> Result<[usize; 3], NoMemory> {
     ])
 }
 
-fn asked(alloc: Global) -> Result<[usize; 4], NoMemory> {
+fn asked(alloc: Global) -> Result<[usize; 5], NoMemory> {
     Ok([
+        doubled(alloc, words(alloc, &[b"PING"])?)?,
         doubled(alloc, Event::Arrive(1, words(alloc, &[b"PING"])?))?,
         doubled(alloc, Event::Flush)?,
         doubled(alloc, order(alloc)?)?,
@@ -226,7 +227,7 @@ fn saved(alloc: Global) -> Result<[usize; 3], NoMemory> {
 #[test]
 fn ample(rt: HostRuntime) -> Result<(), Fail> {
     assert_eq!(rt; told(rt.alloc())?, [2; 3]);
-    assert_eq!(rt; asked(rt.alloc())?, [2; 4]);
+    assert_eq!(rt; asked(rt.alloc())?, [2; 5]);
     assert_eq!(rt; saved(rt.alloc())?, [2; 3]);
     Ok(())
 }

@@ -1,7 +1,7 @@
 ghost use Rattle.std.specs.Prelude.{IsTrue, IsSome};
 ghost use Rattle.client_book.specs.Register.{listed};
 
-use client_book::{Book, JoinFault, PendFault, Pending};
+use client_book::{Book, Client, Clients, JoinFault, PendFault, Pending};
 use core_types::{BadRequest, Blob, ClientState, NoMemory, Reply, Sequence};
 use std::alloc::Global;
 use std::test::Fail;
@@ -65,20 +65,39 @@ fn watch(book: &mut Book, client: u64, key: &[u8]) -> Result<(), NoMemory> {
     Ok(())
 }
 
-// Runs a transaction of one command, and says how many commands it had and whether a watched key
-// was changed.
-fn transaction(alloc: Global, book: &mut Book, client: u64) -> Result<(usize, bool), NoMemory> {
+// Begins a transaction, where the client has none, and puts one command into it.
+fn queue_one(alloc: Global, book: &mut Book, client: u64) -> Result<(), NoMemory> {
     if is_there(book, client) {
         book.begin_queue(client);
     }
     if book.has_queue(client) {
         book.queue(client, Sequence::new(alloc))?;
     }
+    Ok(())
+}
+
+// Runs a transaction of one command, and says how many commands it had and whether a watched key
+// was changed.
+fn transaction(alloc: Global, book: &mut Book, client: u64) -> Result<(usize, bool), NoMemory> {
+    queue_one(alloc, book, client)?;
     if book.has_queue(client) {
         let queue = book.end_queue(client);
         return Ok((queue.commands.len(), queue.touched));
     }
     Ok((0, false))
+}
+
+// How many commands a client's transaction has.
+fn queued(clients: &Clients, client: u64) -> usize {
+    match clients.get(client) {
+        Some(
+            Client {
+                queue: Some(queued),
+                ..
+            },
+        ) => queued.commands.len(),
+        _ => 0,
+    }
 }
 
 // Each call that takes memory answers something else than want of memory, and what it should.
@@ -90,7 +109,9 @@ fn ample(rt: HostRuntime) -> Result<(), Fail> {
     tell(alloc, &mut book, 2, b"OK")?;
     assert_eq!(rt; pended(&mut book, 2, 3), 3);
     watch(&mut book, 2, b"key")?;
+    queue_one(alloc, &mut book, 1)?;
     let clients = book.picture(alloc)?;
+    assert_eq!(rt; queued(&clients, 1), 1);
     assert_eq!(rt; clients.last_joined(), 2);
     assert!(rt; clients.get(3).is_none());
     let told = clients.get(2).map(|client| client.told.as_slice());
