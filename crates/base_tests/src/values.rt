@@ -223,12 +223,21 @@ fn saved(alloc: Global) -> Result<[usize; 3], NoMemory> {
     ])
 }
 
+fn held(alloc: Global, keys: RandomState) -> Result<[usize; 3], NoMemory> {
+    Ok([
+        doubled(alloc, ListBody::new(alloc))?,
+        doubled(alloc, HashBody::new(alloc, keys))?,
+        doubled(alloc, Refusal::Syntax.reply(alloc)?)?,
+    ])
+}
+
 // Each list of another type is copied with all its items.
 #[test]
 fn ample(rt: HostRuntime) -> Result<(), Fail> {
     assert_eq!(rt; told(rt.alloc())?, [2; 3]);
     assert_eq!(rt; asked(rt.alloc())?, [2; 5]);
     assert_eq!(rt; saved(rt.alloc())?, [2; 3]);
+    assert_eq!(rt; held(rt.alloc(), RandomState::new(&rt)?)?, [2; 3]);
     Ok(())
 }
 
