@@ -9,8 +9,12 @@ mod dump;
 #[cfg(test)]
 mod edges;
 #[cfg(test)]
+mod reclaims;
+#[cfg(test)]
 mod registry;
 #[cfg(test)]
 mod tickets;
+#[cfg(test)]
+mod timers;
 #[cfg(test)]
 mod ziplists;

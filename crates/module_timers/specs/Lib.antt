@@ -1,0 +1,5 @@
+pub mod Due
+pub mod TimerTable
+pub mod Outcomes
+pub mod Laws
+pub mod inner
