@@ -17,4 +17,6 @@ mod tickets;
 #[cfg(test)]
 mod timers;
 #[cfg(test)]
+mod waiters;
+#[cfg(test)]
 mod ziplists;
