@@ -1,9 +1,9 @@
 //! Words of a change to be done again, and of a module's answer to a note.
 
-ghost use Rattle.std.specs.Prelude.{◌≡◌, ◌<◌, ◌++◌, [], ◌∷◌, length, IfOk, OnOk};
+ghost use Rattle.std.specs.Prelude.{◌≡◌, ◌<◌, [], ◌∷◌, length, IfOk};
 ghost use Rattle.core_types.specs.Done.{own_words};
 
-use crate::{Args, Blob, Duplicate, NoMemory, Sequence};
+use crate::{Args, Duplicate, NoMemory, Sequence};
 use std::alloc::Global;
 
 /// One change of the keys, as the words of a command that makes it.
@@ -20,9 +20,9 @@ impl Effect {
         ensures words { IfOk result (λ effect. effect ≡ own_words name.now words.now) }
     {
         let mut copied = Args::new(alloc);
-        push_copy(alloc, &mut copied, name)?;
-        for word in &words.as_slice()[1..] {
-            push_copy(alloc, &mut copied, word.as_slice())?;
+        copied.push(name)?;
+        for word in words.from_place(1) {
+            copied.push(word)?;
         }
         Ok(Effect { words: copied })
     }
@@ -33,18 +33,11 @@ impl Effect {
             (λ effect. effect ≡ record { words = name.now ∷ key.now ∷ value.now ∷ [] }) }
     {
         let mut words = Args::new(alloc);
-        push_copy(alloc, &mut words, name)?;
-        push_copy(alloc, &mut words, key)?;
-        push_copy(alloc, &mut words, value)?;
+        words.push(name)?;
+        words.push(key)?;
+        words.push(value)?;
         Ok(Effect { words })
     }
-}
-
-// Adds a copy of a word at the end.
-fn push_copy(alloc: Global, words: &mut Args, word: &[u8]) -> Result<(), NoMemory>
-    ensures ok { OnOk result (words.new ≡ words.old ++ word.now ∷ []) }
-{
-    words.push(Blob::from_slice(alloc, word)?)
 }
 
 /// The changes of one event, in order.

@@ -34,22 +34,28 @@ impl Model for HashBody {
 }
 
 impl HashBody {
-    /// No fields. Names will be hashed with these keys. Takes no memory.
-    pub fn new(alloc: Global, keys: RandomState) -> HashBody
-        ensures empty { result ≡ [] }
+    /// No fields. Names will be hashed with these keys. It takes memory for itself.
+    pub fn new(alloc: Global, keys: RandomState) -> Result<HashBody, NoMemory>
+        ensures empty { IfOk result (λ hash. hash ≡ []) }
     {
-        HashBody {
+        Ok(HashBody {
             fields: IndexMap::with_hasher(alloc, keys),
-        }
+        })
     }
 
     /// The number of fields.
     pub fn len(&self) -> usize
         ensures length { result ≡ length self.now }
         ensures bounded { length self.now < 2 ^ 63 }
-        ensures distinct { AreDistinct self.now }
     {
         self.fields.len()
+    }
+
+    /// No name stands twice.
+    pub fn has_distinct_names(&self)
+        ensures distinct { AreDistinct self.now }
+    {
+        let _ = self.fields.len();
     }
 
     /// Whether there is no field.

@@ -25,13 +25,13 @@ impl Model for ListBody {
 }
 
 impl ListBody {
-    /// The empty list. Takes no memory.
-    pub fn new(alloc: Global) -> ListBody
-        ensures empty { result ≡ [] }
+    /// The empty list. It takes memory for itself.
+    pub fn new(alloc: Global) -> Result<ListBody, NoMemory>
+        ensures empty { IfOk result (λ list. list ≡ []) }
     {
-        ListBody {
+        Ok(ListBody {
             items: VecDeque::new(alloc),
-        }
+        })
     }
 
     /// A second list of the same items.

@@ -10,10 +10,12 @@ mod blob;
 mod duplicate;
 mod no_memory;
 mod sequence;
+mod walk;
 mod words;
 
 pub use blob::Blob;
 pub use duplicate::Duplicate;
 pub use no_memory::NoMemory;
 pub use sequence::{Sequence, duplicate_items};
+pub use walk::Words;
 pub use words::{Args, Commands};

@@ -1,12 +1,9 @@
+-- Serves clause bounded of HashBody::len.
 use Rattle.std.proofs.Common.{◌<◌, ◌^◌, length, subst, arith}
 use Rattle.std.proofs.lemmas.List.{length-map}
-use Rattle.core_types.specs.Fields.{AreDistinct}
 use Rattle.core_types.specs.HashEntries.{fields_of}
-use Rattle.core_types.proofs.FieldLemmas.{field_of, fields_of-distinct}
+use Rattle.core_types.proofs.FieldLemmas.{field_of}
 use Rattle.core_types.proofs.hash_body.HashBody.len.Goals as goal
-
-pub returns-clause-distinct : goal.returns-clause-distinct
-returns-clause-distinct c = subst AreDistinct c.self.view_is (fields_of-distinct c.self.inside.fields.entries c.len.ensures.unique)
 
 pub returns-clause-bounded : goal.returns-clause-bounded
 returns-clause-bounded c =
