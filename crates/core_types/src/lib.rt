@@ -52,7 +52,7 @@ pub use part::Part;
 pub use refusal::{Refusal, invalid_expire, unknown_command, wrong_arity};
 pub use replies::Replies;
 pub use reply::Reply;
-pub use sequences::{Args, Blob, Commands, Duplicate, NoMemory, Sequence, Words};
+pub use sequences::{Args, Blob, Commands, Draft, Duplicate, NoMemory, Sequence, Words};
 pub use stop::{Cause, Stop};
 pub use tagged::{Items, Tagged};
 pub use value::{Kind, Value};

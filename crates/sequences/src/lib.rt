@@ -7,6 +7,7 @@
 #![tactic(auto)]
 
 mod blob;
+mod draft;
 mod duplicate;
 mod no_memory;
 mod sequence;
@@ -14,6 +15,7 @@ mod walk;
 mod words;
 
 pub use blob::Blob;
+pub use draft::Draft;
 pub use duplicate::Duplicate;
 pub use no_memory::NoMemory;
 pub use sequence::{Sequence, duplicate_items};

@@ -1,0 +1,81 @@
+//! The words of a request that is being read.
+
+ghost use Rattle.std.specs.Prelude.{◌≡◌, ◌+◌, ◌≤◌, ◌++◌, [], ◌∷◌, length, OnOk, OnErr};
+
+use crate::{Args, NoMemory};
+use std::alloc::Global;
+use std::marker::Model;
+use std::mem;
+
+/// The words of a request that are whole, and what came of the next one.
+#[derive(Debug, Drop)]
+pub struct Draft {
+    words: Args,
+    tail: Vec<u8>,
+}
+
+impl Model for Draft {
+    ghost use Rattle.sequences.specs.Drafts.{DraftWords};
+
+    ghost Value = { DraftWords };
+
+    ghost view = { λ d. record { words = d.words; tail = d.tail.items } };
+}
+
+impl Draft {
+    /// Nothing came yet. Takes no memory.
+    pub fn new(alloc: Global) -> Draft
+        ensures empty { result ≡ record { words = []; tail = [] } }
+    {
+        Draft {
+            words: Args::new(alloc),
+            tail: Vec::new(alloc),
+        }
+    }
+
+    /// The number of words that are whole.
+    pub fn len(&self) -> usize
+        ensures length { result ≡ length self.now.words }
+    {
+        self.words.len()
+    }
+
+    /// The number of bytes that came of the next word.
+    pub fn tail_len(&self) -> usize
+        ensures length { result ≡ length self.now.tail }
+    {
+        self.tail.len()
+    }
+
+    /// Adds bytes of the next word, which has `size` in all. Room for the whole word is taken once.
+    pub fn add(&mut self, bytes: &[u8], size: usize) -> Result<(), NoMemory>
+        requires { length self.old.tail + length bytes.now ≤ size }
+        ensures ok { OnOk result (self.new ≡ record self.old { tail = self.old.tail ++ bytes.now }) }
+        ensures err { OnErr result (self.new ≡ self.old) }
+    {
+        self.tail.reserve(size - self.tail.len())?;
+        self.tail.extend_from_slice(bytes)?;
+        Ok(())
+    }
+
+    /// Ends the next word: what came of it is whole.
+    pub fn end_word(&mut self) -> Result<(), NoMemory>
+        ensures ok { OnOk result
+            (self.new ≡ record { words = self.old.words ++ self.old.tail ∷ []; tail = [] }) }
+        ensures err { OnErr result (self.new ≡ self.old) }
+    {
+        self.words.push(&self.tail)?;
+        self.tail.clear();
+        Ok(())
+    }
+
+    /// The words, where nothing came of a next one; nothing is left. Takes no memory.
+    pub fn take(&mut self) -> Args
+        requires { self.old.tail ≡ [] }
+        ensures words { result ≡ self.old.words }
+        ensures left { self.new ≡ record { words = []; tail = [] } }
+    {
+        let none = Args::new(*self.tail.allocator());
+        mem::replace(&mut self.words, none)
+    }
+}
