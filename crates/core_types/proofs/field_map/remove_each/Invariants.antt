@@ -3,7 +3,7 @@ use Rattle.std.proofs.Common.{◌≡◌, ◌≤◌}
 use Rattle.indexmap.specs.IndexMap.{index_map_len}
 use Rattle.core_types.specs.Fields.{without_fields}
 use Rattle.core_types.specs.HashEntries.{fields_of}
-use Rattle.core_types.proofs.hash_body.remove_each.Given as goal
+use Rattle.core_types.proofs.field_map.remove_each.Given as goal
 
 -- with the names that are left taken out, what is there makes the result
 abbrev pub invariant-loop-name : goal.invariant-loop-name

@@ -3,7 +3,7 @@ use Rattle.std.proofs.Common.{◌∙◌, ap}
 use Rattle.core_types.specs.Fields.{with_field}
 use Rattle.core_types.specs.HashEntries.{fields_of}
 use Rattle.core_types.proofs.FieldLemmas.{fields_of-insert}
-use Rattle.core_types.proofs.hash_body.insert_copy.Goals as goal
+use Rattle.core_types.proofs.field_map.insert_copy.Goals as goal
 
 pub returns : goal.returns
 returns c =

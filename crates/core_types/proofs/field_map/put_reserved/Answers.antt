@@ -2,7 +2,7 @@ use Rattle.std.proofs.Common.{◌∙◌, ap}
 use Rattle.core_types.specs.Fields.{with_field}
 use Rattle.core_types.specs.HashEntries.{fields_of}
 use Rattle.core_types.proofs.FieldLemmas.{fields_of-insert}
-use Rattle.core_types.proofs.hash_body.put_reserved.Goals as goal
+use Rattle.core_types.proofs.field_map.put_reserved.Goals as goal
 
 pub returns-clause-put : goal.returns-clause-put
 returns-clause-put c =

@@ -3,7 +3,7 @@ use Rattle.std.proofs.Common.{◌≡◌, List, [], ◌∷◌, length, drop, refl
 use Rattle.core_types.specs.declared.field.Field.{Field}
 use Rattle.core_types.specs.Fields.{with_fields}
 use Rattle.core_types.specs.HashEntries.{fields_of}
-use Rattle.core_types.proofs.hash_body.put_all.Goals as goal
+use Rattle.core_types.proofs.field_map.put_all.Goals as goal
 
 -- a list that is its own rest is empty
 none_left : (items rest : List Field) → items ≡ rest → rest ≡ drop 1 items → items ≡ []

@@ -4,7 +4,7 @@ use Rattle.std.specs.VecDeque.{deque_len}
 use Rattle.indexmap.specs.IndexMap.{spare}
 use Rattle.core_types.specs.Fields.{with_fields}
 use Rattle.core_types.specs.HashEntries.{fields_of}
-use Rattle.core_types.proofs.hash_body.put_all.Given as goal
+use Rattle.core_types.proofs.field_map.put_all.Given as goal
 
 -- with what is to come, what is there makes the result, and there is room for it
 abbrev pub invariant-loop-field : goal.invariant-loop-field

@@ -5,7 +5,7 @@ use Rattle.std.proofs.lemmas.Option.{slice_get-map}
 use Rattle.core_types.specs.Fields.{with_field}
 use Rattle.core_types.specs.HashEntries.{fields_of}
 use Rattle.core_types.proofs.FieldLemmas.{field_of, put_next, fields_of-distinct}
-use Rattle.core_types.proofs.hash_body.copied.Goals as goal
+use Rattle.core_types.proofs.field_map.copied.Goals as goal
 
 pub loop-place-preserved : goal.loop-place-preserved
 loop-place-preserved c =
