@@ -2,6 +2,12 @@
 
 use crate::{Args, BadRequest, Blob, Duplicate, NoMemory, Sequence};
 use std::alloc::Global;
+use std::mem::size_of;
+
+// An event is at most 16 bytes wider than its words.
+const _: () = prove!(size_of::<Args>() == 48);
+
+const _: () = prove!(size_of::<Event>() <= 64);
 
 /// One event of the machine.
 #[derive(Debug, Drop)]

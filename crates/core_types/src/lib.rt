@@ -14,6 +14,7 @@ mod cut;
 mod effect;
 mod event;
 mod field;
+mod field_map;
 mod hash_body;
 mod key_laws;
 mod line;

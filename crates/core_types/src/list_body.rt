@@ -12,16 +12,17 @@ use std::collections::VecDeque;
 use std::marker::Model;
 use std::mem;
 
-/// Byte strings in order. Adding and taking at either end and looking at a place cost O(1).
+/// Byte strings in order, behind one pointer. Adding and taking at either end and looking at a place
+/// cost O(1).
 #[derive(Debug, Drop)]
 pub struct ListBody {
-    items: VecDeque<Blob>,
+    items: Box<VecDeque<Blob>>,
 }
 
 impl Model for ListBody {
     ghost Value = { List (List ℕ) };
 
-    ghost view = { λ l. l.items.items };
+    ghost view = { λ l. l.items.value.items };
 }
 
 impl ListBody {
@@ -30,7 +31,7 @@ impl ListBody {
         ensures empty { IfOk result (λ list. list ≡ []) }
     {
         Ok(ListBody {
-            items: VecDeque::new(alloc),
+            items: Box::new(alloc, VecDeque::new(alloc))?,
         })
     }
 
@@ -39,7 +40,7 @@ impl ListBody {
         ensures same { IfOk result (λ list. list ≡ self.now) }
     {
         Ok(ListBody {
-            items: copied(alloc, &self.items)?,
+            items: Box::new(alloc, copied(alloc, &self.items)?)?,
         })
     }
 
