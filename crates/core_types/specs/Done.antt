@@ -2,7 +2,7 @@
 use Rattle.std.proofs.Common.{inl, inr}
 use Rattle.std.specs.Prelude.{◌≡◌, ◌⊎◌, ⊤, ℕ, List, [], ◌∷◌, drop, Option, Some, None}
 use Rattle.std.specs.Borrow.{MutBor}
-pub use Rattle.sequences.specs.Words.{word}
+use Rattle.sequences.specs.Words.{word}
 use Rattle.core_types.specs.Refusals.{refused}
 use Rattle.core_types.specs.declared.effect.Effect.{Effect}
 use Rattle.core_types.specs.declared.note.Note.{Note}

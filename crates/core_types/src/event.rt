@@ -69,6 +69,8 @@ pub enum Answer {
     Closed,
     /// No ticket had this number.
     NeverIssued,
+    /// The ticket waits on a key, and is answered once that is there.
+    OnKey,
     /// No ticket waits to be answered.
     NothingReady,
     /// This ticket was answered.
