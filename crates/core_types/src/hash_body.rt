@@ -4,9 +4,9 @@ ghost use Rattle.std.specs.Prelude.{◌≡◌, ◌==◌, ◌+◌, ◌<◌, ◌�
 ghost use Rattle.std.specs.Option.{option_copied, option_map};
 ghost use Rattle.indexmap.specs.IndexMap.{index_map_len, set_value_at, spare, values};
 ghost use Rattle.core_types.specs.HashEntries.{fields_of};
-ghost use Rattle.core_types.specs.Fields.{field_value, with_field, with_fields, without_field, AreDistinct};
+ghost use Rattle.core_types.specs.Fields.{field_value, with_field, with_fields, without_field, without_fields, AreDistinct};
 
-use crate::{Blob, Duplicate, Field, Fields, NoMemory};
+use crate::{Blob, Duplicate, Field, Fields, NoMemory, Words};
 use indexmap::IndexMap;
 use std::alloc::Global;
 use std::collections::VecDeque;
@@ -116,6 +116,17 @@ impl HashBody {
         self.fields.shift_remove(name)
     }
 
+    /// Takes out names: how many there were. The other fields keep their order. All of them are
+    /// taken out or none.
+    pub fn remove_all(&mut self, alloc: Global, names: Words<'_>) -> Result<usize, NoMemory>
+        ensures left { OnOk result (self.new ≡ without_fields self.old names.entry) }
+        ensures count { IfOk result (λ n. n + length self.new ≡ length self.old) }
+        ensures err { OnErr result (self.new ≡ self.old) }
+    {
+        let _ = alloc;
+        Ok(remove_each(&mut self.fields, names))
+    }
+
     /// Puts fields, one after the other. All of them are put or none. Each takes O(1) expected.
     pub fn put_all(&mut self, fields: Fields) -> Result<(), NoMemory>
         ensures ok { OnOk result (self.new ≡ with_fields self.old fields) }
@@ -163,6 +174,28 @@ fn insert_copy(alloc: Global, fields: &mut Map, name: &[u8], value: &Blob) -> Re
 {
     fields.insert(Vec::from_slice(alloc, name)?, value.copy(alloc)?)?;
     Ok(())
+}
+
+// Takes out names, one after the other: how many there were.
+fn remove_each(fields: &mut Map, names: Words<'_>) -> usize
+    ensures left { fields_of fields.new.entries
+        ≡ without_fields (fields_of fields.old.entries) names.entry }
+    ensures count { result + index_map_len fields.new ≡ index_map_len fields.old }
+{
+    let before = fields.len();
+    for name in names {
+        take_out(fields, name);
+    }
+    before - fields.len()
+}
+
+// Takes out a name.
+fn take_out(fields: &mut Map, name: &[u8])
+    ensures left { fields_of fields.new.entries
+        ≡ without_field (fields_of fields.old.entries) name.now }
+    ensures fewer { index_map_len fields.new ≤ index_map_len fields.old }
+{
+    let _ = fields.shift_remove(name);
 }
 
 fn put_all(fields: &mut Map, more: Vec<Field>) -> Result<(), NoMemory>

@@ -2,6 +2,7 @@
 
 ghost use Rattle.std.specs.Prelude.{◌≡◌, ◌+◌, ◌≤◌, ◌++◌, [], ◌∷◌, length, OnOk, OnErr};
 
+use crate::packed::Packed;
 use crate::{Args, NoMemory};
 use std::alloc::Global;
 use std::marker::Model;
@@ -10,8 +11,7 @@ use std::mem;
 /// The words of a request that are whole, and what came of the next one.
 #[derive(Debug, Drop)]
 pub struct Draft {
-    words: Args,
-    tail: Vec<u8>,
+    packed: Packed,
 }
 
 impl Model for Draft {
@@ -19,7 +19,7 @@ impl Model for Draft {
 
     ghost Value = { DraftWords };
 
-    ghost view = { λ d. record { words = d.words; tail = d.tail.items } };
+    ghost view = { λ d. d.packed };
 }
 
 impl Draft {
@@ -28,8 +28,7 @@ impl Draft {
         ensures empty { result ≡ record { words = []; tail = [] } }
     {
         Draft {
-            words: Args::new(alloc),
-            tail: Vec::new(alloc),
+            packed: Packed::new(alloc),
         }
     }
 
@@ -37,14 +36,14 @@ impl Draft {
     pub fn len(&self) -> usize
         ensures length { result ≡ length self.now.words }
     {
-        self.words.len()
+        self.packed.len()
     }
 
     /// The number of bytes that came of the next word.
     pub fn tail_len(&self) -> usize
         ensures length { result ≡ length self.now.tail }
     {
-        self.tail.len()
+        self.packed.tail_len()
     }
 
     /// Adds bytes of the next word, which has `size` in all. Room for the whole word is taken once.
@@ -53,9 +52,7 @@ impl Draft {
         ensures ok { OnOk result (self.new ≡ record self.old { tail = self.old.tail ++ bytes.now }) }
         ensures err { OnErr result (self.new ≡ self.old) }
     {
-        self.tail.reserve(size - self.tail.len())?;
-        self.tail.extend_from_slice(bytes)?;
-        Ok(())
+        self.packed.add(bytes, size)
     }
 
     /// Ends the next word: what came of it is whole.
@@ -64,9 +61,7 @@ impl Draft {
             (self.new ≡ record { words = self.old.words ++ self.old.tail ∷ []; tail = [] }) }
         ensures err { OnErr result (self.new ≡ self.old) }
     {
-        self.words.push(&self.tail)?;
-        self.tail.clear();
-        Ok(())
+        self.packed.end_word()
     }
 
     /// The words, where nothing came of a next one; nothing is left. Takes no memory.
@@ -75,7 +70,7 @@ impl Draft {
         ensures words { result ≡ self.old.words }
         ensures left { self.new ≡ record { words = []; tail = [] } }
     {
-        let none = Args::new(*self.tail.allocator());
-        mem::replace(&mut self.words, none)
+        let none = Packed::new(self.packed.allocator());
+        Args::from_packed(mem::replace(&mut self.packed, none))
     }
 }

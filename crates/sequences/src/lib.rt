@@ -10,6 +10,7 @@ mod blob;
 mod draft;
 mod duplicate;
 mod no_memory;
+mod packed;
 mod sequence;
 mod walk;
 mod words;

@@ -5,14 +5,15 @@ ghost use Rattle.std.specs.Prelude.{◌≡◌, ◌==◌, ◌<◌, ◌++◌, List
 ghost use Rattle.std.specs.Option.{option_map};
 ghost use Rattle.sequences.specs.Words.{word};
 
-use crate::{Blob, Duplicate, NoMemory, Sequence, Words};
+use crate::packed::Packed;
+use crate::{Duplicate, NoMemory, Sequence, Words};
 use std::alloc::Global;
 use std::marker::Model;
 
 /// The words of one request: the name of a command and its arguments.
 #[derive(Debug, Drop)]
 pub struct Args {
-    words: Vec<Blob>,
+    packed: Packed,
 }
 
 /// The words of commands, in order.
@@ -21,16 +22,26 @@ pub type Commands = Sequence<Args>;
 impl Model for Args {
     ghost Value = { List (List ℕ) };
 
-    ghost view = { λ a. a.words.items };
+    ghost view = { λ a. a.packed.words };
+
+    ghost invariant = { λ a. a.packed.tail ≡ [] };
 }
 
 impl Args {
+    // The words that are packed, where nothing stands behind the last of them.
+    pub(crate) fn from_packed(packed: Packed) -> Args
+        requires { packed.tail ≡ [] }
+        ensures words { result ≡ packed.words }
+    {
+        Args { packed }
+    }
+
     /// No words. Takes no memory.
     pub fn new(alloc: Global) -> Args
         ensures empty { result ≡ [] }
     {
         Args {
-            words: Vec::new(alloc),
+            packed: Packed::new(alloc),
         }
     }
 
@@ -38,32 +49,32 @@ impl Args {
     pub fn len(&self) -> usize
         ensures length { result ≡ length self.now }
     {
-        self.words.len()
+        self.packed.len()
     }
 
     /// Whether there is no word.
     pub fn is_empty(&self) -> bool
         ensures empty { result ≡ (length self.now == 0) }
     {
-        self.words.is_empty()
+        self.packed.len() == 0
     }
 
     /// The word at a place, counted from 0.
-    #[tactic(auto, unfolding(crate::specs::Words::word))]
     pub fn word(&self, place: usize) -> &[u8]
         requires { place < length self.now }
         ensures word { result.now ≡ word place self.now }
     {
-        self.words[place].as_slice()
+        self.packed.word(place)
     }
 
     /// The word at a place, counted from 0, or `None` past the end.
     pub fn get(&self, place: usize) -> Option<&[u8]>
         ensures at { option_map (λ word. word.now) result ≡ slice_get self.now place }
     {
-        match self.words.get(place) {
-            Some(word) => Some(word.as_slice()),
-            None => None,
+        if place < self.packed.len() {
+            Some(self.packed.word(place))
+        } else {
+            None
         }
     }
 
@@ -79,9 +90,7 @@ impl Args {
         ensures ok { OnOk result (self.new ≡ self.old ++ word.now ∷ []) }
         ensures err { OnErr result (self.new ≡ self.old) }
     {
-        let alloc = *self.words.allocator();
-        self.words.push(Blob::from_slice(alloc, word)?)?;
-        Ok(())
+        self.packed.push(word)
     }
 
     /// Takes memory for this number of words more, of this number of bytes in all, so that adding
@@ -89,17 +98,15 @@ impl Args {
     pub fn reserve(&mut self, words: usize, bytes: usize) -> Result<(), NoMemory>
         ensures same { self.new ≡ self.old }
     {
-        let _ = bytes;
-        self.words.reserve(words)?;
-        Ok(())
+        self.packed.reserve(words, bytes)
     }
 
-    /// A second list of the same words.
+    /// A second list of the same words, in two blocks of just their size.
     pub fn copy(&self, alloc: Global) -> Result<Args, NoMemory>
         ensures same { IfOk result (λ words. words ≡ self.now) }
     {
         Ok(Args {
-            words: crate::duplicate_items(alloc, &self.words)?,
+            packed: self.packed.copy(alloc)?,
         })
     }
 }

@@ -5,5 +5,7 @@ use Rattle.core_types.proofs.FieldLemmas.{fields_of-distinct}
 use Rattle.core_types.proofs.hash_body.HashBody.has_distinct_names.Goals as goal
 
 pub returns : goal.returns
-returns c = record { distinct =
-    subst AreDistinct c.self.view_is (fields_of-distinct c.self.inside.fields.entries c.len.ensures.unique) }
+returns c = record {
+  distinct =
+      subst AreDistinct c.self.view_is (fields_of-distinct c.self.inside.fields.entries c.len.ensures.unique);
+}
