@@ -56,8 +56,8 @@ fn entry_of(words: Args, size: usize) -> Entry
 fn is_named(words: &Args, name: &[u8]) -> bool
     ensures { result ≡ spec.is_named name.now words.now }
 {
-    match words.as_slice() {
-        [] => false,
-        [first, ..] => first.as_slice().eq_ignore_ascii_case(name),
+    match words.get(0) {
+        Some(first) => first.eq_ignore_ascii_case(name),
+        None => false,
     }
 }

@@ -55,7 +55,7 @@ fn append_reply(out: &mut Blob, reply: &Reply) -> Result<(), NoMemory>
         Reply::Simple(line) => append_line(out, b'+', line.as_slice()),
         Reply::Error(line) => append_line(out, b'-', line.as_slice()),
         Reply::Int(n) => append_int(out, *n),
-        Reply::Bulk(bytes) => append_bulk(out, bytes),
+        Reply::Bulk(bytes) => append_bulk(out, bytes.as_slice()),
         Reply::Null => out.push_slice(b"$-1\r\n"),
         Reply::Array(replies) => append_array(out, replies),
         Reply::NullArray => out.push_slice(b"*-1\r\n"),
@@ -83,7 +83,7 @@ fn append_part(out: &mut Blob, part: &Part) -> Result<(), NoMemory>
         Part::Simple(line) => append_line(out, b'+', line.as_slice()),
         Part::Error(line) => append_line(out, b'-', line.as_slice()),
         Part::Int(n) => append_int(out, *n),
-        Part::Bulk(bytes) => append_bulk(out, bytes),
+        Part::Bulk(bytes) => append_bulk(out, bytes.as_slice()),
         Part::Null => out.push_slice(b"$-1\r\n"),
         Part::NullArray => out.push_slice(b"*-1\r\n"),
         Part::ArrayOf(count) => append_header(out, b'*', *count),
@@ -95,19 +95,19 @@ fn append_request(out: &mut Blob, words: &Args) -> Result<(), NoMemory>
     ensures err { OnErr result (take (length out.old) out.new ≡ out.old) }
 {
     append_header(out, b'*', words.len() as u64)?;
-    for word in words.as_slice() {
+    for word in words.from_place(0) {
         append_bulk(out, word)?;
     }
     Ok(())
 }
 
-fn append_bulk(out: &mut Blob, bytes: &Blob) -> Result<(), NoMemory>
+fn append_bulk(out: &mut Blob, bytes: &[u8]) -> Result<(), NoMemory>
     ensures ok { OnOk result (out.new ≡ out.old ++ bulk bytes.now) }
     ensures err { OnErr result (take (length out.old) out.new ≡ out.old) }
 {
     make_room(out, bytes.len())?;
     append_header(out, b'$', bytes.len() as u64)?;
-    append_ended(out, bytes.as_slice())
+    append_ended(out, bytes)
 }
 
 // The buffer grows by the size of a large bulk, and not to the double; a shorter one than what
