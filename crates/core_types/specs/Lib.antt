@@ -14,3 +14,4 @@ pub mod HashEntries
 pub mod CommandRow
 pub mod Keyspace
 pub mod KeyLaws
+pub mod inner
