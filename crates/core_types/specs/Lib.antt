@@ -17,3 +17,4 @@ pub mod KeyLaws
 pub mod Limits
 pub mod Answers
 pub mod CommandLaws
+pub mod inner

@@ -1,13 +1,14 @@
 //! The map behind a hash.
 
-ghost use Rattle.std.specs.Prelude.{◌≡◌, ◌+◌, ◌<◌, ◌≤◌, ◌^◌, length, slice_get, Some, IfOk, OnOk, OnErr};
+ghost use Rattle.std.specs.Prelude.{◌≡◌, ◌+◌, ◌<◌, ◌≤◌, ◌^◌, ℕ, List, not, length, slice_get, Some, IfOk, OnOk, OnErr};
 ghost use Rattle.std.specs.Option.{option_copied};
 ghost use Rattle.indexmap.specs.IndexMap.{index_map_len, set_value_at, spare, values};
 ghost use Rattle.core_types.specs.HashEntries.{fields_of};
+ghost use Rattle.core_types.specs.inner.Removals.{is_among, set_names, those_but};
 ghost use Rattle.core_types.specs.Fields.{field_value, with_field, with_fields, without_field, without_fields, AreDistinct};
 
 use crate::{Blob, Field, NoMemory, Words};
-use indexmap::IndexMap;
+use indexmap::{IndexMap, IndexSet};
 use std::alloc::Global;
 use std::collections::VecDeque;
 use std::hash::RandomState;
@@ -15,6 +16,12 @@ use std::mem;
 
 /// Names with values, in the order in which the names came.
 pub(crate) type FieldMap = IndexMap<Vec<u8>, Blob, RandomState>;
+
+// From this many names on, they are taken out in one pass.
+const MANY: usize = 8;
+
+// Names that stand where they came from.
+type NameSet<'a> = IndexSet<&'a [u8], RandomState>;
 
 // The number of fields.
 pub(crate) fn count(fields: &FieldMap) -> usize
@@ -100,8 +107,27 @@ fn insert_copy(
     Ok(())
 }
 
-// Takes out names, one after the other: how many there were.
-pub(crate) fn remove_each(fields: &mut FieldMap, names: Words<'_>) -> usize
+// Takes out names, all of them or none: how many there were. The cost is linear in the fields and
+// the names, whatever their numbers.
+pub(crate) fn remove_all(
+    alloc: Global,
+    fields: &mut FieldMap,
+    names: Words<'_>,
+) -> Result<usize, NoMemory>
+    ensures left { OnOk result (fields_of fields.new.entries
+        ≡ without_fields (fields_of fields.old.entries) names.entry) }
+    ensures count { IfOk result (λ n. n + index_map_len fields.new ≡ index_map_len fields.old) }
+    ensures err { OnErr result (fields_of fields.new.entries ≡ fields_of fields.old.entries) }
+{
+    if names.len() < MANY {
+        Ok(remove_each(fields, names))
+    } else {
+        remove_together(alloc, fields, names)
+    }
+}
+
+// Takes out names, one after the other: how many there were. Each moves the fields behind it.
+fn remove_each(fields: &mut FieldMap, names: Words<'_>) -> usize
     ensures left { fields_of fields.new.entries
         ≡ without_fields (fields_of fields.old.entries) names.entry }
     ensures count { result + index_map_len fields.new ≡ index_map_len fields.old }
@@ -111,6 +137,49 @@ pub(crate) fn remove_each(fields: &mut FieldMap, names: Words<'_>) -> usize
         let _ = remove(fields, name);
     }
     before - fields.len()
+}
+
+// Takes out names in one pass over the fields, all of them or none: how many there were.
+fn remove_together(
+    alloc: Global,
+    fields: &mut FieldMap,
+    names: Words<'_>,
+) -> Result<usize, NoMemory>
+    ensures left { OnOk result (fields_of fields.new.entries
+        ≡ without_fields (fields_of fields.old.entries) names.entry) }
+    ensures count { IfOk result (λ n. n + index_map_len fields.new ≡ index_map_len fields.old) }
+    ensures err { OnErr result (fields_of fields.new.entries ≡ fields_of fields.old.entries) }
+{
+    let before = fields.len();
+    let set = name_set(alloc, *fields.hasher(), names)?;
+    keep_others(fields, &set);
+    Ok(before - fields.len())
+}
+
+// Keeps the fields with other names than those of a set, in one pass.
+fn keep_others(fields: &mut FieldMap, names: &NameSet<'_>)
+    ensures left { fields_of fields.new.entries
+        ≡ those_but (set_names names.now.keys) (fields_of fields.old.entries) }
+    ensures fewer { index_map_len fields.new ≤ index_map_len fields.old }
+{
+    fields.retain(
+        |name: &Vec<u8>, value: &mut Blob| -> bool
+            ensures { (result ≡ not (is_among (set_names names.entry.now.keys) name.now.items))
+                × (value.new ≡ value.old) }
+        { !names.contains(&name.as_slice()) },
+    );
+}
+
+// The names as a set, hashed by these keys.
+fn name_set<'a>(alloc: Global, keys: RandomState, names: Words<'a>) -> Result<NameSet<'a>, NoMemory>
+    ensures among { IfOk result (λ set. (name : List ℕ)
+        → is_among (set_names set.keys) name ≡ is_among names.entry name) }
+{
+    let mut set = IndexSet::with_capacity_and_hasher(alloc, names.len(), keys)?;
+    for name in names {
+        set.insert(name)?;
+    }
+    Ok(set)
 }
 
 // Puts fields, one after the other, all of them or none.

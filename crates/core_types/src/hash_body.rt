@@ -1,9 +1,7 @@
 //! The value of a hash: fields in order of insertion, found by name.
 
-ghost use Rattle.std.specs.Prelude.{◌≡◌, ◌==◌, ◌+◌, ◌<◌, ◌≤◌, ◌^◌, List, ℕ, [], ◌∷◌, length, is_some, slice_get, IfOk, OnOk, OnErr};
+ghost use Rattle.std.specs.Prelude.{◌≡◌, ◌==◌, ◌+◌, ◌<◌, ◌^◌, [], length, slice_get, IfOk, OnOk, OnErr};
 ghost use Rattle.std.specs.Option.{option_copied, option_map};
-ghost use Rattle.indexmap.specs.IndexMap.{index_map_len, set_value_at, spare, values};
-ghost use Rattle.core_types.specs.HashEntries.{fields_of};
 ghost use Rattle.core_types.specs.Fields.{field_value, with_field, with_fields, without_field, without_fields, AreDistinct};
 
 use crate::field_map::{self, FieldMap};
@@ -110,14 +108,14 @@ impl HashBody {
     }
 
     /// Takes out names: how many there were. The other fields keep their order. All of them are
-    /// taken out or none.
+    /// taken out or none. The cost is linear in the fields and the names together, and a few names
+    /// take no memory.
     pub fn remove_all(&mut self, alloc: Global, names: Words<'_>) -> Result<usize, NoMemory>
         ensures left { OnOk result (self.new ≡ without_fields self.old names.entry) }
         ensures count { IfOk result (λ n. n + length self.new ≡ length self.old) }
         ensures err { OnErr result (self.new ≡ self.old) }
     {
-        let _ = alloc;
-        Ok(field_map::remove_each(&mut self.fields, names))
+        field_map::remove_all(alloc, &mut self.fields, names)
     }
 
     /// Puts fields, one after the other. All of them are put or none. Each takes O(1) expected.

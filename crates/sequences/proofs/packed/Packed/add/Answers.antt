@@ -1,3 +1,4 @@
+-- Serves clause ok of Draft::add.
 use Rattle.std.proofs.Common.{◌++◌, List, ℕ, ap, ◌∙◌}
 use Rattle.sequences.specs.Drafts.{DraftWords}
 use Rattle.sequences.proofs.Packing.{rises_append, cut_append}

@@ -1,3 +1,4 @@
+-- Serves clause ok of Draft::end_word.
 use Rattle.std.proofs.Common.{◌≡◌, ◌++◌, [], ◌∷◌, ℕ, length, ap, ◌∙◌, arith}
 use Rattle.sequences.specs.Drafts.{DraftWords}
 use Rattle.sequences.proofs.Packing.{rises_end, cut_end}

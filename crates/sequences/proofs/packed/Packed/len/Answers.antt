@@ -1,3 +1,4 @@
+-- Serves clause length of Args::len and Draft::len.
 use Rattle.std.proofs.Common.{◌≡◌, length, sym, ap, ◌∙◌, arith}
 use Rattle.sequences.proofs.Packing.{length-words_from}
 use Rattle.sequences.proofs.packed.Packed.len.Goals as goal

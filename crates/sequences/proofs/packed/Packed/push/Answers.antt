@@ -1,3 +1,4 @@
+-- Serves clause ok of Args::push.
 use Rattle.std.proofs.Common.{◌≡◌, ◌++◌, [], ◌∷◌, List, ℕ, length, ap, ◌∙◌, arith}
 use Rattle.sequences.specs.Drafts.{DraftWords}
 use Rattle.sequences.proofs.Packing.{rises_append, rises_end, cut_push}

@@ -1,3 +1,4 @@
+-- Serves clause length of Draft::tail_len.
 use Rattle.std.proofs.Common.{◌≡◌, ◌≤◌, List, ℕ, length, ap, ◌∙◌, arith}
 use Rattle.std.proofs.lemmas.List.{take_all, length-drop}
 use Rattle.sequences.specs.inner.Packing.{last_end}

@@ -1,3 +1,4 @@
+-- Serves clause word of Args::word.
 use Rattle.std.proofs.Common.{◌<◌, List, ℕ, [], length, take, get_or, sym, ap, ◌∙◌, arith}
 use Rattle.std.proofs.lemmas.List.{get_or_read}
 use Rattle.sequences.specs.Words.{word}

@@ -1,3 +1,4 @@
+-- Serves clause at of Args::get.
 use Rattle.std.proofs.Common.{◌<◌, ◌≤◌, List, ℕ, [], length, sym, ap, ◌∙◌, arith, Some, slice_get}
 use Rattle.std.proofs.lemmas.Option.{slice_get-get_or, slice_get_past}
 use Rattle.sequences.specs.Words.{word}
