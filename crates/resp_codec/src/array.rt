@@ -6,6 +6,7 @@ ghost use Rattle.resp_codec.specs.inner.Header.{IsHeaderLine};
 ghost use Rattle.resp_codec.specs.Array.{IsFront};
 ghost use Rattle.resp_codec.specs.declared.array.Array.{Array};
 
+use crate::ahead::ahead;
 use crate::header::{Header, judge};
 use crate::line::{CR, find};
 use crate::number::read_count;
@@ -65,6 +66,8 @@ fn read_words(alloc: Global, bytes: &[u8], start: usize, count: usize) -> Result
     ensures { IfOk result (λ array. IsFront bytes.now array) }
 {
     let mut words = Args::new(alloc);
+    let (due, room) = ahead(count);
+    words.reserve(due, room)?;
     let mut place = start;
     while words.len() < count {
         let (_, rest) = bytes.split_at(place);

@@ -10,10 +10,12 @@
 //!
 //! Reading is linear in the bytes fed, whatever the pieces: the reader keeps its place, and copies
 //! the bytes of words once out of the input into the request that they make, also those of a word
-//! that is not whole, for which room is taken once. Writing is linear: a decimal takes no memory of its own, and a large
-//! bulk lets the buffer grow by its size and not to the double.
+//! that is not whole, for which room is taken once. A short request takes two blocks. Writing is
+//! linear: a decimal takes no memory of its own, room for the words of a request is taken at once,
+//! and what is large lets the buffer grow by its size and not to the double.
 #![tactic(auto)]
 
+mod ahead;
 mod array;
 mod header;
 mod inline;

@@ -8,6 +8,7 @@ ghost use Rattle.resp_codec.specs.Stream.{Takes, Waits, Refuses, SkipsOnly};
 ghost use Rattle.resp_codec.specs.inner.Underway.{begun, IsDue, IsDue-prop};
 ghost use Rattle.core_types.specs.declared.bad_request.BadRequest.{BadRequest};
 
+use crate::ahead::ahead;
 use crate::header::Header;
 use crate::inline::{first_quote, line_words};
 use crate::input::Input;
@@ -229,7 +230,12 @@ impl Reading {
         ensures shorter { length self.new.input ≤ length self.old.input }
         ensures all { OnOk result (IsGathered size self.new) }
     {
-        let more = self.input.len().min(size - self.draft.tail_len());
+        let left = size - self.draft.tail_len();
+        if self.draft.len() == 0 {
+            let (words, bytes) = ahead(self.count - 1);
+            self.draft.reserve(words + 1, left + bytes)?;
+        }
+        let more = self.input.len().min(left);
         self.draft.add(self.input.front(more), size)?;
         self.input.skip(more);
         Ok(())

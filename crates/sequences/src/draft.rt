@@ -55,6 +55,14 @@ impl Draft {
         self.packed.add(bytes, size)
     }
 
+    /// Takes memory for this number of words more, of this number of bytes in all, so that adding
+    /// them takes none.
+    pub fn reserve(&mut self, words: usize, bytes: usize) -> Result<(), NoMemory>
+        ensures same { self.new ≡ self.old }
+    {
+        self.packed.reserve(words, bytes)
+    }
+
     /// Ends the next word: what came of it is whole.
     pub fn end_word(&mut self) -> Result<(), NoMemory>
         ensures ok { OnOk result
