@@ -1,6 +1,6 @@
 //! Words one behind the other in one buffer, and where each of them ends in another.
 
-ghost use Rattle.std.specs.Prelude.{◌≡◌, ◌+◌, ◌<◌, ◌≤◌, ◌++◌, [], ◌∷◌, length, take, slice_range, IfOk, OnOk, OnErr};
+ghost use Rattle.std.specs.Prelude.{◌≡◌, ◌+◌, ◌<◌, ◌≤◌, ◌^◌, ◌++◌, [], ◌∷◌, length, take, slice_range, IfOk, OnOk, OnErr};
 ghost use Rattle.std.specs.Vec.{vec_len, vec_capacity};
 ghost use Rattle.sequences.specs.Words.{word};
 ghost use Rattle.sequences.specs.inner.Packing.{last_end};
@@ -51,6 +51,7 @@ impl Packed {
     /// The number of words.
     pub fn len(&self) -> usize
         ensures length { result ≡ length self.now.words }
+        ensures small { result < 2 ^ 63 }
     {
         self.ends.len()
     }

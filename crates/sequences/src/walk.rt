@@ -1,6 +1,6 @@
 //! The words of a request, one after the other.
 
-ghost use Rattle.std.specs.Prelude.{◌≡◌, ◌==◌, ◌<◌, length, drop};
+ghost use Rattle.std.specs.Prelude.{◌≡◌, ◌==◌, ◌<◌, ◌^◌, length, drop};
 ghost use Rattle.std.specs.Iterator.{at_most};
 ghost use Rattle.std.specs.Map.Iter.{TakesFirst, deref};
 
@@ -32,6 +32,7 @@ impl<'a> Words<'a> {
     /// The number of words that are left.
     pub fn len(&self) -> usize
         ensures length { result ≡ length self.now }
+        ensures small { result < 2 ^ 63 }
     {
         self.args.len().saturating_sub(self.place)
     }

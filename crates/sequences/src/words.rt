@@ -1,7 +1,7 @@
 //! The words of requests, packed: the bytes of all words stand in one buffer, and where each ends
 //! in another.
 
-ghost use Rattle.std.specs.Prelude.{◌≡◌, ◌==◌, ◌<◌, ◌++◌, List, ℕ, [], ◌∷◌, length, slice_get, drop, IfOk, OnOk, OnErr};
+ghost use Rattle.std.specs.Prelude.{◌≡◌, ◌==◌, ◌<◌, ◌^◌, ◌++◌, List, ℕ, [], ◌∷◌, length, slice_get, drop, IfOk, OnOk, OnErr};
 ghost use Rattle.std.specs.Option.{option_map};
 ghost use Rattle.sequences.specs.Words.{word};
 
@@ -48,6 +48,7 @@ impl Args {
     /// The number of words.
     pub fn len(&self) -> usize
         ensures length { result ≡ length self.now }
+        ensures small { result < 2 ^ 63 }
     {
         self.packed.len()
     }
