@@ -11,13 +11,17 @@ use Rattle.core_types.specs.inner.Removals.{is_among, set_names}
 abbrev pub same_name : Bor (List ℕ) → Bor (List ℕ) → Bool
 same_name a b = bytes_eq a.now b.now
 
+-- a key that is put where it is not there yet
+abbrev pub put_key : Bor (List ℕ) → List (Bor (List ℕ)) → List (Bor (List ℕ))
+put_key key keys = if list_any (same_name key) keys then keys else keys ++ key ∷ []
+
 -- a search for a name in the set
 pub found_is : (name : List ℕ) (keys : List (Bor (List ℕ)))
     → list_any (λ (key : Bor (List ℕ)). bytes_eq name key.now) keys ≡ is_among (set_names keys) name
 found_is name [] = refl
 found_is name (key ∷ keys) =
     rw (nat_list_eq_equiv.symm name key.now)
-        (ap (λ (rest : Bool). bytes_eq key.now name || rest) (found_is name keys))
+    (ap (λ (rest : Bool). bytes_eq key.now name || rest) (found_is name keys))
 
 or_assoc : (a b c : Bool) → (a || b || c) ≡ (a || (b || c))
 or_assoc true b c = refl
@@ -45,28 +49,31 @@ there_already key (other ∷ keys) name there same =
         → (bytes_eq other.now name || is_among (set_names keys) name) ≡ true
     by true equal rest there =
         ap (λ (first : Bool). first || is_among (set_names keys) name)
-            (sym (nat_list_eq_equiv.congr key.now other.now name equal) ∙ same)
+        (sym (nat_list_eq_equiv.congr key.now other.now name equal) ∙ same)
     by false equal rest there =
         ap (λ (more : Bool). bytes_eq other.now name || more) (rest there)
         ∙ or_true (bytes_eq other.now name)
 
 -- one more key, at the end
 among_push : (key : Bor (List ℕ)) (keys : List (Bor (List ℕ))) (name : List ℕ)
-    → is_among (set_names (keys ++ key ∷ [])) name ≡ (is_among (set_names keys) name || bytes_eq key.now name)
+    → is_among (set_names (keys ++ key ∷ [])) name
+    ≡ (is_among (set_names keys) name || bytes_eq key.now name)
 among_push key [] name = or_false (bytes_eq key.now name)
 among_push key (other ∷ keys) name =
     ap (λ (rest : Bool). bytes_eq other.now name || rest) (among_push key keys name)
-    ∙ sym (or_assoc (bytes_eq other.now name) (is_among (set_names keys) name) (bytes_eq key.now name))
+    ∙ sym (or_assoc (bytes_eq other.now name) (is_among (set_names keys) name)
+    (bytes_eq key.now name))
 
--- a key that is put where it is not there yet
+-- what is among the names after that
 pub among_put : (key : Bor (List ℕ)) (keys : List (Bor (List ℕ))) (name : List ℕ)
-    → is_among (set_names (if list_any (same_name key) keys then keys else keys ++ key ∷ [])) name
+    → is_among (set_names (put_key key keys)) name
     ≡ (is_among (set_names keys) name || bytes_eq key.now name)
 among_put key keys name = by (list_any (same_name key) keys) refl
   where
     known : (b : Bool) → bytes_eq key.now name ≡ b → list_any (same_name key) keys ≡ true
         → is_among (set_names keys) name ≡ (is_among (set_names keys) name || b)
-    known true same there = there_already key keys name there same ∙ sym (or_true (is_among (set_names keys) name))
+    known true same there =
+        there_already key keys name there same ∙ sym (or_true (is_among (set_names keys) name))
     known false same there = sym (or_false (is_among (set_names keys) name))
 
     by : (b : Bool) → list_any (same_name key) keys ≡ b
@@ -76,8 +83,8 @@ among_put key keys name = by (list_any (same_name key) keys) refl
     by false there = among_push key keys name
 
 -- and of the names that are left there is one less
-pub among_more : (key : Bor (List ℕ)) (keys : List (Bor (List ℕ))) (left : List (List ℕ)) (name : List ℕ)
-    → (is_among (set_names (if list_any (same_name key) keys then keys else keys ++ key ∷ [])) name || is_among left name)
+pub among_more : (key : Bor (List ℕ)) (keys : List (Bor (List ℕ))) (left : List (List ℕ))
+    (name : List ℕ) → (is_among (set_names (put_key key keys)) name || is_among left name)
     ≡ (is_among (set_names keys) name || is_among (key.now ∷ left) name)
 among_more key keys left name =
     ap (λ (first : Bool). first || is_among left name) (among_put key keys name)

@@ -12,8 +12,8 @@ use std::collections::VecDeque;
 use std::marker::Model;
 use std::mem;
 
-/// Byte strings in order, behind one pointer. Adding and taking at either end and looking at a place
-/// cost O(1).
+/// Byte strings in order, behind one pointer. Adding and taking at either end and looking at a
+/// place cost O(1).
 #[derive(Debug, Drop)]
 pub struct ListBody {
     items: Box<VecDeque<Blob>>,

@@ -30,7 +30,8 @@ pub words_before : (start : ℕ) (bytes more ends : List ℕ) → Rises start (l
     → words_from start (bytes ++ more) ends ≡ words_from start bytes ends
 words_before start bytes more [] rises = refl
 words_before start bytes more (end ∷ ends) rises =
-    let first = range_before bytes more start end rises.0 (low_top end (length bytes) ends rises.1) in
+    let top = low_top end (length bytes) ends rises.1 in
+    let first = range_before bytes more start end rises.0 top in
     rw first (ap (λ (rest : List (List ℕ)). slice_range bytes start end ∷ rest)
     (words_before end bytes more ends rises.1))
 
@@ -41,12 +42,15 @@ tail_more start bytes more ends rises =
     drop-append-le (last_end start ends) bytes more (last_top start (length bytes) ends rises)
 
 -- more bytes leave the ends rising
-pub rises_more : (low top more : ℕ) (ends : List ℕ) → top ≤ more → Rises low top ends → Rises low more ends
+pub rises_more : (low top more : ℕ) (ends : List ℕ) → top ≤ more → Rises low top ends
+    → Rises low more ends
 rises_more low top more [] above rises = omega (arith, above, rises)
-rises_more low top more (end ∷ ends) above rises = (rises.0, rises_more end top more ends above rises.1)
+rises_more low top more (end ∷ ends) above rises =
+    (rises.0, rises_more end top more ends above rises.1)
 
 -- one more end, at the end of the bytes
-pub rises_end : (low top : ℕ) (ends : List ℕ) → Rises low top ends → Rises low top (ends ++ top ∷ [])
+pub rises_end : (low top : ℕ) (ends : List ℕ) → Rises low top ends
+    → Rises low top (ends ++ top ∷ [])
 rises_end low top [] rises = let same : top ≤ top = omega arith in (rises, same)
 rises_end low top (end ∷ ends) rises = (rises.0, rises_end end top ends rises.1)
 
@@ -65,7 +69,8 @@ words_end start bytes [] =
 words_end start bytes (end ∷ ends) =
     ap (λ (rest : List (List ℕ)). slice_range bytes start end ∷ rest) (words_end end bytes ends)
 
-pub length-words_from : (start : ℕ) (bytes ends : List ℕ) → length (words_from start bytes ends) ≡ length ends
+pub length-words_from : (start : ℕ) (bytes ends : List ℕ)
+    → length (words_from start bytes ends) ≡ length ends
 length-words_from start bytes [] = refl
 length-words_from start bytes (end ∷ ends) = ap suc (length-words_from end bytes ends)
 
@@ -98,7 +103,8 @@ last_end_take start (end ∷ ends) (suc n) there =
     last_end_take end ends n next
 
 -- more bytes leave the ends rising
-pub rises_append : (bytes more ends : List ℕ) → Rises 0 (length bytes) ends → Rises 0 (length (bytes ++ more)) ends
+pub rises_append : (bytes more ends : List ℕ) → Rises 0 (length bytes) ends
+    → Rises 0 (length (bytes ++ more)) ends
 rises_append bytes more ends rises =
     let above : length bytes ≤ length (bytes ++ more) = omega (arith, length-append bytes more) in
     rises_more 0 (length bytes) (length (bytes ++ more)) ends above rises
@@ -125,10 +131,13 @@ cut_end bytes ends =
     cc
 
 -- the tail that was empty, and a word behind it
-pub cut_push : (bytes word ends : List ℕ) → Rises 0 (length bytes) ends → (cut_at bytes ends).tail ≡ []
+pub cut_push : (bytes word ends : List ℕ) → Rises 0 (length bytes) ends
+    → (cut_at bytes ends).tail ≡ []
     → cut_at (bytes ++ word) (ends ++ length (bytes ++ word) ∷ [])
     ≡ record { words = (cut_at bytes ends).words ++ word ∷ []; tail = [] }
 cut_push bytes word ends rises none =
     let words = words_before 0 bytes word ends rises in
-    let tail : drop (last_end 0 ends) (bytes ++ word) ≡ word = tail_more 0 bytes word ends rises ∙ ap (λ (t : List ℕ). t ++ word) none in
+    let more = tail_more 0 bytes word ends rises in
+    let tail : drop (last_end 0 ends) (bytes ++ word) ≡ word =
+    more ∙ ap (λ (there : List ℕ). there ++ word) none in
     cut_end (bytes ++ word) ends ∙ (let done = words in cc)

@@ -49,7 +49,8 @@ impl Draft {
     /// Adds bytes of the next word, which has `size` in all. Room for the whole word is taken once.
     pub fn add(&mut self, bytes: &[u8], size: usize) -> Result<(), NoMemory>
         requires { length self.old.tail + length bytes.now ≤ size }
-        ensures ok { OnOk result (self.new ≡ record self.old { tail = self.old.tail ++ bytes.now }) }
+        ensures ok { OnOk result
+            (self.new ≡ record self.old { tail = self.old.tail ++ bytes.now }) }
         ensures err { OnErr result (self.new ≡ self.old) }
     {
         self.packed.add(bytes, size)

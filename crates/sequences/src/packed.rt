@@ -76,7 +76,8 @@ impl Packed {
     /// Adds bytes behind the last word, of which `size` will come in all.
     pub fn add(&mut self, bytes: &[u8], size: usize) -> Result<(), NoMemory>
         requires { length self.old.tail + length bytes.now ≤ size }
-        ensures ok { OnOk result (self.new ≡ record self.old { tail = self.old.tail ++ bytes.now }) }
+        ensures ok { OnOk result
+            (self.new ≡ record self.old { tail = self.old.tail ++ bytes.now }) }
         ensures err { OnErr result (self.new ≡ self.old) }
     {
         let left = size - self.tail_len();

@@ -11,6 +11,8 @@ use Rattle.core_types.proofs.field_map.keep_others.Goals as goal
 pub returns-clause-left : goal.returns-clause-left
 returns-clause-left c =
     let names = set_names c.args.names.now.keys in
-    let stays : Vec ℕ Global × List ℕ → Bool = λ (entry : Vec ℕ Global × List ℕ). not (is_among names entry.0.items) in
-    ap fields_of (filter-RetainsPairs _ stays _ (λ k v b w g call. search rules) _ _ c.retain.ensures.filtered)
+    let stays : Vec ℕ Global × List ℕ → Bool =
+    λ (entry : Vec ℕ Global × List ℕ). not (is_among names entry.0.items) in
+    let kept = c.retain.ensures.filtered in
+    ap fields_of (filter-RetainsPairs _ stays _ (λ k v b w g call. search rules) _ _ kept)
     ∙ entries_but names stays c.args.fields.now.entries (λ entry. refl)

@@ -10,8 +10,8 @@ loop-name-preserved c = λ name.
     let there = c.loop-name.set.keys in
     let left = c.next.new.self in
     ap (λ (keys : List (Bor (List ℕ))). is_among (set_names keys) name || is_among left name)
-        c.in_ok-insert.ensures.keys
+    c.in_ok-insert.ensures.keys
     ∙ among_more c.in-Some.name there left name
     ∙ ap (λ (names : List (List ℕ)). is_among (set_names there) name || is_among names name)
-        (sym c.in-Some.ensures.steps)
+    (sym c.in-Some.ensures.steps)
     ∙ c.loop-name.invariant name

@@ -7,4 +7,4 @@ use Rattle.core_types.proofs.field_map.name_set.Given as goal
 abbrev pub invariant-loop-name : goal.invariant-loop-name
 invariant-loop-name l =
     (name : List ℕ) → (is_among (set_names l.set.keys) name || is_among l.name-iterator name)
-        ≡ is_among l.fn.names name
+    ≡ is_among l.fn.names name

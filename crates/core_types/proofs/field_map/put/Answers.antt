@@ -13,13 +13,15 @@ returns-in-Some-clause-before c =
 pub returns-in-Some-clause-ok : goal.returns-in-Some-clause-ok
 returns-in-Some-clause-ok c =
     ap fields_of c.replace.ensures.written
-    ∙ put_at c.args.fields.now.entries c.args.name.now c.args.value c.in-Some.place c.in-Some.ensures.index
+    ∙ put_at c.args.fields.now.entries c.args.name.now c.args.value c.in-Some.place
+    c.in-Some.ensures.index
 
 pub returns-in_ok-insert-in-None-clause-before : goal.returns-in_ok-insert-in-None-clause-before
 returns-in_ok-insert-in-None-clause-before c =
     c.in_ok-insert-in-None.ensures.old
     ∙ value-fields_of c.args.fields.now.entries c.in_ok-name-in-None.name.items
-    ∙ ap (λ name. field_value (fields_of c.args.fields.now.entries) name) c.in_ok-name-in-None.ensures.items
+    ∙ ap (λ name. field_value (fields_of c.args.fields.now.entries) name)
+    c.in_ok-name-in-None.ensures.items
 
 pub returns-in_ok-insert-in-None-clause-ok : goal.returns-in_ok-insert-in-None-clause-ok
 returns-in_ok-insert-in-None-clause-ok c =

@@ -10,5 +10,6 @@ returns-else-place-eq0 c =
     let before : c.args.place - 1 < length ends = omega arith in
     let one : suc (c.args.place - 1) ≡ c.args.place = omega arith in
     record {
-      start = sym (last_end_take 0 ends (c.args.place - 1) before) ∙ ap (λ n. last_end 0 (take n ends)) one;
+      start = sym (last_end_take 0 ends (c.args.place - 1) before)
+          ∙ ap (λ n. last_end 0 (take n ends)) one;
     }

@@ -16,5 +16,6 @@ returns-clause-ok c =
     let inside = c.self.inside in
     let long : c.len.result ≡ length inside.bytes.items = omega arith in
     let ends = c.in_ok-push.ensures.items ∙ ap (λ (end : ℕ). inside.ends.items ++ end ∷ []) long in
-    let whole : DraftWords → DraftWords = λ (d : DraftWords). record { words = d.words ++ d.tail ∷ []; tail = [] } in
+    let whole : DraftWords → DraftWords =
+    λ (d : DraftWords). record { words = d.words ++ d.tail ∷ []; tail = [] } in
     rw ends (cut_end inside.bytes.items inside.ends.items ∙ ap whole c.self.view_is)

@@ -7,22 +7,31 @@ use Rattle.sequences.proofs.packed.Packed.push.Goals as goal
 pub invariant_of-self-2 : goal.invariant_of-self-2
 invariant_of-self-2 c =
     let inside = c.self.inside in
-    let whole = inside.bytes.items ++ c.args.word.now in
-    let bytes = c.in_ok-extend_from_slice.ensures.items ∙ ap (λ (there : List ℕ). there ++ c.args.word.now) c.make_room.ensures.same in
+    let word = c.args.word.now in
+    let whole = inside.bytes.items ++ word in
+    let same = ap (λ (there : List ℕ). there ++ word) c.make_room.ensures.same in
+    let bytes = c.in_ok-extend_from_slice.ensures.items ∙ same in
     let long : c.len.result ≡ length c.extend_from_slice.new.self.items = omega arith in
-    let end = long ∙ ap (λ (bs : List ℕ). length bs) bytes in
-    let ends = c.push_reserved.ensures.items ∙ ap (λ (there : List ℕ). there ++ c.len.result ∷ []) c.reserve.ensures.items ∙ ap (λ (end : ℕ). inside.ends.items ++ end ∷ []) end in
-    rw (bytes, ends) (rises_end 0 (length whole) inside.ends.items
-    (rises_append inside.bytes.items c.args.word.now inside.ends.items c.self.invariant))
+    let end = long ∙ ap (λ (all : List ℕ). length all) bytes in
+    let reserved = ap (λ (there : List ℕ). there ++ c.len.result ∷ []) c.reserve.ensures.items in
+    let at_end = ap (λ (n : ℕ). inside.ends.items ++ n ∷ []) end in
+    let ends = c.push_reserved.ensures.items ∙ reserved ∙ at_end in
+    let rises = rises_append inside.bytes.items word inside.ends.items c.self.invariant in
+    rw (bytes, ends) (rises_end 0 (length whole) inside.ends.items rises)
 
 pub returns-clause-ok : goal.returns-clause-ok
 returns-clause-ok c =
     let inside = c.self.inside in
-    let bytes = c.in_ok-extend_from_slice.ensures.items ∙ ap (λ (there : List ℕ). there ++ c.args.word.now) c.make_room.ensures.same in
+    let word = c.args.word.now in
+    let same = ap (λ (there : List ℕ). there ++ word) c.make_room.ensures.same in
+    let bytes = c.in_ok-extend_from_slice.ensures.items ∙ same in
     let long : c.len.result ≡ length c.extend_from_slice.new.self.items = omega arith in
-    let end = long ∙ ap (λ (bs : List ℕ). length bs) bytes in
-    let ends = c.push_reserved.ensures.items ∙ ap (λ (there : List ℕ). there ++ c.len.result ∷ []) c.reserve.ensures.items ∙ ap (λ (end : ℕ). inside.ends.items ++ end ∷ []) end in
+    let end = long ∙ ap (λ (all : List ℕ). length all) bytes in
+    let reserved = ap (λ (there : List ℕ). there ++ c.len.result ∷ []) c.reserve.ensures.items in
+    let at_end = ap (λ (n : ℕ). inside.ends.items ++ n ∷ []) end in
+    let ends = c.push_reserved.ensures.items ∙ reserved ∙ at_end in
     let none = ap (λ d. d.tail) c.self.view_is ∙ c.requires in
-    let put : DraftWords → DraftWords = λ (d : DraftWords). record { words = d.words ++ c.args.word.now ∷ []; tail = [] } in
-    rw (bytes, ends) (cut_push inside.bytes.items c.args.word.now inside.ends.items c.self.invariant none
-    ∙ ap put c.self.view_is)
+    let put : DraftWords → DraftWords =
+    λ (d : DraftWords). record { words = d.words ++ word ∷ []; tail = [] } in
+    let done = cut_push inside.bytes.items word inside.ends.items c.self.invariant none in
+    rw (bytes, ends) (done ∙ ap put c.self.view_is)

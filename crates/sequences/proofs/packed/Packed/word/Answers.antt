@@ -26,10 +26,14 @@ part-requires c =
     let many = length-words_from 0 inside.bytes.items inside.ends.items in
     let same = ap (λ d. length d.words) c.self.view_is in
     let there : c.args.place < length inside.ends.items = omega (arith, many, same) in
-    let start = c.start_of-start.ensures.start ∙ ap (λ (ends : List ℕ). last_end 0 (take c.args.place ends)) c.deref.ensures.value in
-    let end = get_or_read inside.ends.items c.args.place c.index-end.result.now there c.index-end.ensures 0 in
+    let ends = inside.ends.items in
+    let before : List ℕ → ℕ = λ (all : List ℕ). last_end 0 (take c.args.place all) in
+    let start = c.start_of-start.ensures.start ∙ ap before c.deref.ensures.value in
+    let read = c.index-end.result.now in
+    let end = get_or_read ends c.args.place read there c.index-end.ensures 0 in
     let bytes = ap (λ (bs : List ℕ). length bs) c.deref-2.ensures.value in
-    let within = word_within 0 (length inside.bytes.items) inside.ends.items c.args.place c.self.invariant there in
+    let size = length inside.bytes.items in
+    let within = word_within 0 size ends c.args.place c.self.invariant there in
     let order = within.0 in
     let top = within.1 in
     record { order = omega (arith, start, end, order); within = omega (arith, end, bytes, top) }
@@ -41,8 +45,11 @@ returns c =
     let many = length-words_from 0 inside.bytes.items inside.ends.items in
     let same = ap (λ d. length d.words) c.self.view_is in
     let there : c.args.place < length inside.ends.items = omega (arith, many, same) in
-    let start = c.start_of-start.ensures.start ∙ ap (λ (ends : List ℕ). last_end 0 (take c.args.place ends)) c.deref.ensures.value in
-    let end = get_or_read inside.ends.items c.args.place c.index-end.result.now there c.index-end.ensures 0 in
+    let ends = inside.ends.items in
+    let before : List ℕ → ℕ = λ (all : List ℕ). last_end 0 (take c.args.place all) in
+    let start = c.start_of-start.ensures.start ∙ ap before c.deref.ensures.value in
+    let read = c.index-end.result.now in
+    let end = get_or_read ends c.args.place read there c.index-end.ensures 0 in
     record {
       word = c.part.ensures.part
           ∙ rw (start, end, c.deref-2.ensures.value)
