@@ -1,8 +1,9 @@
 #!/usr/bin/env python3
 """Tries the launcher in a copy of the repository with nothing built and an empty home: two first runs at once answer
-within two minutes of the processor (on the clock others may work beside it), and say that they are not proved, in one
-line each time; streams, statuses and signals are the program's; each fault of the launcher has its line. Where this repository's own program is proved, and what was
-proved is kept on this machine, proves the copy's too: it then runs, and says nothing.
+within two minutes of the processor (on the clock others may work beside it), and say that they are not proved, in
+one line each time; streams, statuses and signals are the program's; each fault of the launcher has its line. Where
+this repository's own program is proved, and what was proved is kept on this machine, proves the copy's too: it then
+runs, and says nothing.
 
 Exits 0 where all holds. Skipped where the toolchain is missing.
 """
@@ -149,7 +150,7 @@ def check(place):
     print(f"tests/first_run.py: two first runs at once replied in {taken:.0f} s ({used:.0f} s of the "
           "processor), not proved, as they said")
     if not is_proved() or not proves(copy):
-        print("skipped in tests/first_run.py, since no proof is kept on this machine: that it proves")
+        print("skipped in tests/first_run.py, as the program here is not proved, or its proofs are not kept: that it proves")
         return
     later_runs(copy, b"")
     os.utime(os.path.join(copy.top, "crates.txt"))
