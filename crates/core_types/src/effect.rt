@@ -34,7 +34,10 @@ impl Effect {
         ensures words { IfOk result
             (λ effect. effect ≡ record { words = name.now ∷ key.now ∷ value.now ∷ [] }) }
     {
-        let bytes = name.len().saturating_add(key.len()).saturating_add(value.len());
+        let bytes = name
+            .len()
+            .saturating_add(key.len())
+            .saturating_add(value.len());
         let mut words = Args::new(alloc);
         words.reserve(3, bytes)?;
         words.push(name)?;
