@@ -3,7 +3,7 @@
 ghost use Rattle.std.specs.Prelude.{◌≡◌, ◌<◌, [], ◌∷◌, length, IfOk};
 ghost use Rattle.core_types.specs.Done.{own_words};
 
-use crate::{Args, Duplicate, NoMemory, Sequence};
+use crate::{Args, Duplicate, NoMemory, Sequence, Words};
 use std::alloc::Global;
 
 /// One change of the keys, as the words of a command that makes it.
@@ -19,7 +19,9 @@ impl Effect {
         requires { 0 < length words.now }
         ensures words { IfOk result (λ effect. effect ≡ own_words name.now words.now) }
     {
+        let bytes = name.len().saturating_add(size_of(words.from_place(1)));
         let mut copied = Args::new(alloc);
+        copied.reserve(words.len(), bytes)?;
         copied.push(name)?;
         for word in words.from_place(1) {
             copied.push(word)?;
@@ -32,12 +34,26 @@ impl Effect {
         ensures words { IfOk result
             (λ effect. effect ≡ record { words = name.now ∷ key.now ∷ value.now ∷ [] }) }
     {
+        let bytes = name
+            .len()
+            .saturating_add(key.len())
+            .saturating_add(value.len());
         let mut words = Args::new(alloc);
+        words.reserve(3, bytes)?;
         words.push(name)?;
         words.push(key)?;
         words.push(value)?;
         Ok(Effect { words })
     }
+}
+
+// The number of bytes of these words, to take memory for them.
+fn size_of(words: Words<'_>) -> usize {
+    let mut size: usize = 0;
+    for word in words {
+        size = size.saturating_add(word.len());
+    }
+    size
 }
 
 /// The changes of one event, in order.

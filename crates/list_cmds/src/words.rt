@@ -32,11 +32,11 @@ pub(crate) fn items_of(alloc: Global, words: &Args) -> Result<Sequence<Blob>, No
     requires { 2 ≤ length words.now }
     ensures { IfOk result (λ items. items ≡ drop 2 words.now) }
 {
-    let mut items = Sequence::new(alloc);
+    let mut items = Vec::with_capacity(alloc, words.len() - 2)?;
     for word in words.from_place(2) {
         items.push(Blob::from_slice(alloc, word)?)?;
     }
-    Ok(items)
+    Ok(Sequence::from_vec(items))
 }
 
 /// An event of a list, on the key of these words.

@@ -3,4 +3,4 @@ use Rattle.std.proofs.Common.{◌≡◌, ◌++◌, drop}
 use Rattle.list_cmds.proofs.words.items_of.Given as goal
 
 abbrev pub invariant-loop-word : goal.invariant-loop-word
-invariant-loop-word l = l.items ++ l.word-iterator ≡ drop 2 l.words
+invariant-loop-word l = l.items.items ++ l.word-iterator ≡ drop 2 l.words
