@@ -12,15 +12,7 @@ import sys
 import tempfile
 import time
 
-ROOT = os.path.dirname(os.path.dirname(os.path.abspath(__file__)))
-PROGRAM = os.path.join(ROOT, "modhost")
-
-
-def multibulk(*words):
-    parts = [b"*%d\r\n" % len(words)]
-    for word in words:
-        parts.append(b"$%d\r\n%s\r\n" % (len(word), word))
-    return b"".join(parts)
+from beside import multibulk, program, shuffled
 
 
 def many_words(count):
@@ -48,13 +40,14 @@ def one_list(count):
 
 
 def one_hash(count):
-    pairs = (word for n in range(count) for word in (b"name:%07d" % n, b"v"))
+    pairs = (word for n in shuffled(count) for word in (b"name:%07d" % n, b"v"))
     return multibulk(b"HSET", b"h", *pairs) + multibulk(b"HLEN", b"h")
 
 
 def many_keys(count):
-    pairs = (word for n in range(count) for word in (b"k%07d" % n, b"v"))
-    return multibulk(b"MSET", *pairs) + b"".join(multibulk(b"TTL", b"k%07d" % n) for n in range(count))
+    pairs = (word for n in shuffled(count) for word in (b"k%07d" % n, b"v"))
+    asked = (multibulk(b"TTL", b"k%07d" % n) for n in shuffled(count, seed=2))
+    return multibulk(b"MSET", *pairs) + b"".join(asked)
 
 
 # Each load with the size of the whole, and whether it is fed byte by byte, by dd.
@@ -74,14 +67,14 @@ LOADS = [
 ]
 
 
-def run(data, bytewise=False):
+def run(program, data, bytewise=False):
     """Seconds of the clock and of the processor, and peak kilobytes, of one run over the bytes, to nowhere."""
     with tempfile.TemporaryDirectory() as folder:
         path = os.path.join(folder, "input")
         with open(path, "wb") as out:
             out.write(data)
         # A small interpreter starts it, since a child's peak counts what its parent held.
-        told = subprocess.run([sys.executable, __file__, "--measure", path] + ["bytewise"] * bytewise,
+        told = subprocess.run([sys.executable, __file__, "--measure", program, path] + ["bytewise"] * bytewise,
                               stdout=subprocess.PIPE)
         if told.returncode != 0:
             sys.exit(told.returncode)
@@ -89,7 +82,7 @@ def run(data, bytewise=False):
         return float(clock), float(processor), int(kilobytes)
 
 
-def measure(path, bytewise):
+def measure(program, path, bytewise):
     with open(path, "rb") as stdin:
         start = time.monotonic()
         if bytewise:
@@ -97,7 +90,7 @@ def measure(path, bytewise):
                 ["dd", "bs=1"], stdin=stdin, stdout=subprocess.PIPE, stderr=subprocess.DEVNULL
             ).stdout
         child = subprocess.Popen(
-            [PROGRAM, "pipe", os.path.dirname(path)], stdin=stdin, stdout=subprocess.DEVNULL
+            [program, "pipe", os.path.dirname(path)], stdin=stdin, stdout=subprocess.DEVNULL
         )
         _, status, usage = os.wait4(child.pid, 0)
         clock = time.monotonic() - start
@@ -131,22 +124,22 @@ def redis_pings(count):
 
 
 def main():
-    subprocess.run([PROGRAM, "--version"], stdout=subprocess.DEVNULL, check=True)
+    path = program()
     for name, make, count, bytewise in LOADS:
-        _, tenth, tenth_memory = run(make(count // 10), bytewise)
-        _, whole, memory = run(make(count), bytewise)
+        _, tenth, tenth_memory = run(path, make(count // 10), bytewise)
+        _, whole, memory = run(path, make(count), bytewise)
         print(f"{name}: {whole:.3f} s, {memory // 1024} MiB; a tenth: {tenth:.3f} s, "
               f"{tenth_memory // 1024} MiB; ratio {whole / tenth:.1f}")
     theirs = redis_pings(500_000)
     if theirs is None:
         print("redis-server is not installed: no comparison")
     else:
-        ours, _, _ = run(pings(500_000))
+        ours, _, _ = run(path, pings(500_000))
         print(f"500,000 PINGs: modhost {ours:.2f} s, redis-server {theirs:.2f} s, ratio {ours / theirs:.2f}")
 
 
 if __name__ == "__main__":
     if sys.argv[1:2] == ["--measure"]:
-        measure(sys.argv[2], sys.argv[3:] == ["bytewise"])
+        measure(sys.argv[2], sys.argv[3], sys.argv[4:] == ["bytewise"])
     else:
         main()

@@ -15,27 +15,23 @@ import sys
 import tempfile
 import time
 
-ROOT = os.path.dirname(os.path.dirname(os.path.abspath(__file__)))
-PROGRAM = os.path.join(ROOT, "modhost")
+from beside import multibulk, program, shuffled
+
 AT_ONCE, ONE_BY_ONE = 1_000_000, 20_000
 
 
-def multibulk(*words):
-    return b"*%d\r\n" % len(words) + b"".join(b"$%d\r\n%s\r\n" % (len(word), word) for word in words)
-
-
 def requests(count):
-    """SETs of as many keys, each followed by a GET of it, in all this many requests."""
-    for n in range(count // 2):
+    """SETs of as many keys in random order, each followed by a GET of it, in all this many requests."""
+    for n in shuffled(count // 2):
         key = b"key:%07d" % n
         yield multibulk(b"SET", key, b"value:%07d" % n)
         yield multibulk(b"GET", key)
 
 
-def ours_at_once(folder, path):
+def ours_at_once(folder, program, path):
     with open(path, "rb") as stdin:
         start = time.monotonic()
-        subprocess.run([PROGRAM, "pipe", folder], stdin=stdin, stdout=subprocess.DEVNULL, check=True)
+        subprocess.run([program, "pipe", folder], stdin=stdin, stdout=subprocess.DEVNULL, check=True)
         return time.monotonic() - start
 
 
@@ -74,9 +70,9 @@ def ask(sent, send, receive):
     return time.monotonic() - start
 
 
-def ours_one_by_one(folder, sent):
+def ours_one_by_one(folder, path, sent):
     program = subprocess.Popen(
-        [PROGRAM, "pipe", folder], stdin=subprocess.PIPE, stdout=subprocess.PIPE, bufsize=0
+        [path, "pipe", folder], stdin=subprocess.PIPE, stdout=subprocess.PIPE, bufsize=0
     )
     taken = ask(sent, program.stdin.write, lambda: program.stdout.read(65_536))
     program.stdin.close()
@@ -95,26 +91,26 @@ def timed(measure, *arguments):
         return measure(folder, *arguments)
 
 
-def at_once(count):
+def at_once(path, count):
     with tempfile.NamedTemporaryFile() as file:
         for request in requests(count):
             file.write(request)
         file.flush()
-        return timed(ours_at_once, file.name), timed(theirs_at_once, file.name)
+        return timed(ours_at_once, path, file.name), timed(theirs_at_once, file.name)
 
 
-def one_by_one(count):
+def one_by_one(path, count):
     sent = list(requests(count))
-    return timed(ours_one_by_one, sent), timed(theirs_one_by_one, sent)
+    return timed(ours_one_by_one, path, sent), timed(theirs_one_by_one, sent)
 
 
 def main():
     if not (shutil.which("redis-server") and shutil.which("redis-cli")):
         sys.exit("redis-server is not installed: no comparison")
-    subprocess.run([PROGRAM, "--version"], stdout=subprocess.DEVNULL, check=True)
+    path = program()
     for name, measure, count in (("at once", at_once, AT_ONCE), ("one by one", one_by_one, ONE_BY_ONE)):
         for size in (count // 10, count):
-            ours, theirs = measure(size)
+            ours, theirs = measure(path, size)
             print(f"{size:,} SETs and GETs, {name}: modhost {ours:.2f} s, redis-server {theirs:.2f} s, "
                   f"ratio {ours / theirs:.2f}", flush=True)
 

@@ -66,8 +66,8 @@ def main():
     if not shutil.which("rt"):
         print("skipped, for want of the toolchain: tests/kill_restart.py")
         return 0
-    # Builds the program first where that is due.
-    subprocess.run([PROGRAM, "--version"], stdout=subprocess.DEVNULL, check=True)
+    # Proves the program first where that is due.
+    subprocess.run([PROGRAM, "prove"], check=True)
     chance = random.Random(7)
     with tempfile.TemporaryDirectory() as folder:
         done = 0

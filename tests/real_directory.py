@@ -181,8 +181,8 @@ def main():
     if not shutil.which("rt"):
         print("skipped, for want of the toolchain: tests/real_directory.py")
         return 0
-    # Builds the program first where that is due.
-    subprocess.run([PROGRAM, "--version"], stdout=subprocess.DEVNULL, check=True)
+    # Proves the program first where that is due.
+    subprocess.run([PROGRAM, "prove"], check=True)
     traced = [syncs, link_syncs] if can_trace() else []
     if not traced:
         print("skipped in tests/real_directory.py, for want of strace: which files are synced")

@@ -165,8 +165,8 @@ def main():
         if not shutil.which(tool):
             print(f"skipped, for want of {name}: tests/redis_reads.py")
             return 0
-    # Builds the program first where that is due.
-    subprocess.run([PROGRAM, "--version"], stdout=subprocess.DEVNULL, check=True)
+    # Proves the program first where that is due.
+    subprocess.run([PROGRAM, "prove"], check=True)
     with tempfile.TemporaryDirectory() as folder, tempfile.TemporaryDirectory() as copy:
         wrong = check(folder, copy)
     if wrong:

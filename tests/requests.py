@@ -141,8 +141,8 @@ def main():
     if not shutil.which("rt"):
         print("skipped, for want of the toolchain: tests/requests.py")
         return 0
-    # Builds the program first where that is due.
-    subprocess.run([PROGRAM, "--version"], stdout=subprocess.DEVNULL, check=True)
+    # Proves the program first where that is due.
+    subprocess.run([PROGRAM, "prove"], check=True)
     for sent, changes, replies, end in ROWS:
         for size in (len(sent), 1) if len(sent) < 100 else (len(sent), 4_096):
             told = wrong(sent, changes, replies, end, size)

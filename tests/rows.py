@@ -321,8 +321,8 @@ def main():
     if not shutil.which("rt"):
         print("skipped, for want of the toolchain: tests/rows.py")
         return 0
-    # Builds the program first where that is due.
-    subprocess.run([PROGRAM, "--version"], stdout=subprocess.DEVNULL, check=True)
+    # Proves the program first where that is due.
+    subprocess.run([PROGRAM, "prove"], check=True)
     count = 0
     for row in rows():
         count += 1

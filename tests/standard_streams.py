@@ -106,8 +106,8 @@ def main():
     if not shutil.which("rt"):
         print("skipped, for want of the toolchain: tests/standard_streams.py")
         return 0
-    # Builds the program first where that is due.
-    subprocess.run([PROGRAM, "--version"], stdout=subprocess.DEVNULL, check=True)
+    # Proves the program first where that is due.
+    subprocess.run([PROGRAM, "prove"], check=True)
     for check in (talk, outlive):
         with tempfile.TemporaryDirectory() as folder:
             program = subprocess.Popen(

@@ -1,4 +1,4 @@
-use core_types::{Args, BadRequest, Blob, NoMemory, Replies, Reply, Sequence};
+use core_types::{Args, BadRequest, Blob, NoMemory, Replies, Reply};
 use resp_codec::{Array, Got, Reader, bad_reply, read_array, write_reply, write_request};
 use std::alloc::Global;
 use std::test::Fail;
@@ -13,9 +13,9 @@ const DUE: &[u8] = b"|SET|a\r\nb|SET|a\r\nb*1\r\n$4\r\na\r\nb\r\n\
 
 // Says each word, behind a stroke.
 fn say_words(text: &mut Blob, words: &Args) -> Result<(), NoMemory> {
-    for word in words.as_slice() {
+    for word in words.from_place(0) {
         text.push(b'|')?;
-        text.push_slice(word.as_slice())?;
+        text.push_slice(word)?;
     }
     Ok(())
 }
@@ -40,8 +40,8 @@ fn say_front(alloc: Global, text: &mut Blob) -> Result<(), NoMemory> {
 
 // Writes a request of one word.
 fn write_word(alloc: Global, text: &mut Blob) -> Result<(), NoMemory> {
-    let mut words = Sequence::new(alloc);
-    words.push(Blob::from_slice(alloc, b"a\r\nb")?)?;
+    let mut words = Args::new(alloc);
+    words.push(b"a\r\nb")?;
     write_request(text, &words)
 }
 

@@ -1,7 +1,7 @@
 use core_types::{
-    After, Args, Blob, Chore, CommandSpec, Duplicate, Effect, Event, Field, HashBody, Line,
+    After, Args, Blob, Chore, CommandSpec, Draft, Duplicate, Effect, Event, Field, HashBody, Line,
     ListBody, NoMemory, Note, NoteClass, Order, Out, Outcome, Part, Refusal, Replies, Reply,
-    Sequence, Tagged, invalid_expire, unknown_command, wrong_arity,
+    Sequence, Tagged, Words, invalid_expire, unknown_command, wrong_arity,
 };
 use std::alloc::Global;
 use std::hash::RandomState;
@@ -12,11 +12,20 @@ fn blob(alloc: Global, bytes: &[u8]) -> Result<Blob, NoMemory> {
 }
 
 fn words(alloc: Global, texts: &[&[u8]]) -> Result<Args, NoMemory> {
-    let mut words = Sequence::new(alloc);
+    let mut words = Args::new(alloc);
+    words.reserve(texts.len(), 8)?;
     for text in texts {
-        words.push(blob(alloc, text)?)?;
+        words.push(text)?;
     }
     Ok(words)
+}
+
+fn blobs(alloc: Global, texts: &[&[u8]]) -> Result<Sequence<Blob>, NoMemory> {
+    let mut blobs = Sequence::new(alloc);
+    for text in texts {
+        blobs.push(blob(alloc, text)?)?;
+    }
+    Ok(blobs)
 }
 
 fn grow(text: &mut Blob) -> Result<(), NoMemory> {
@@ -51,6 +60,67 @@ fn strings_grow_and_are_written_over(rt: HostRuntime) -> Result<(), Fail> {
     Ok(())
 }
 
+// Adds the words that are left, with a comma behind each.
+fn add_words(all: &mut Blob, words: Words<'_>) -> Result<(), NoMemory> {
+    for word in words {
+        all.push_slice(word)?;
+        all.push(b',')?;
+    }
+    Ok(())
+}
+
+// A copy of all words, those from the third on, and the second.
+fn add_each_way(alloc: Global, all: &mut Blob, words: &Args) -> Result<(), NoMemory> {
+    let copy = words.copy(alloc)?;
+    add_words(all, copy.from_place(0))?;
+    add_words(all, words.from_place(2))?;
+    all.push_slice(words.get(1).unwrap_or(b"?"))?;
+    all.push_slice(words.get(9).unwrap_or(b"!"))
+}
+
+// Adds a word to a draft in two pieces, of which the first is one byte or none.
+fn draft_word(draft: &mut Draft, text: &[u8]) -> Result<(), NoMemory> {
+    let (first, rest) = text.split_at(text.len().min(1));
+    let Some(size) = draft.tail_len().checked_add(text.len()) else {
+        return Err(NoMemory);
+    };
+    draft.add(first, size)?;
+    draft.add(rest, size)?;
+    draft.end_word()
+}
+
+#[tactic(auto, using(std::proofs::lemmas::List::nil_from_length))]
+fn drafted(draft: &mut Draft, texts: &[&[u8]]) -> Result<Args, NoMemory> {
+    for text in texts {
+        draft_word(draft, text)?;
+    }
+    if draft.tail_len() > 0 || draft.len() != texts.len() {
+        return Err(NoMemory);
+    }
+    Ok(draft.take())
+}
+
+const EDGES: &[&[u8]] = &[b"", b"key", b"", b"v", b""];
+
+// Words that were pushed and words that were drafted, and those that a second draft has.
+fn add_edges(alloc: Global, all: &mut Blob) -> Result<(), NoMemory> {
+    add_each_way(alloc, all, &words(alloc, EDGES)?)?;
+    let mut draft = Draft::new(alloc);
+    add_each_way(alloc, all, &drafted(&mut draft, EDGES)?)?;
+    add_each_way(alloc, all, &drafted(&mut draft, &[b"x"])?)
+}
+
+#[test]
+fn empty_words_keep_their_places(rt: HostRuntime) -> Result<(), Fail> {
+    let mut all = Blob::new(rt.alloc());
+    add_edges(rt.alloc(), &mut all)?;
+    assert_eq!(rt;
+        all.as_slice(),
+        b",key,,v,,,v,,key!,key,,v,,,v,,key!x,?!".as_slice()
+    );
+    Ok(())
+}
+
 // Adds the items of a list, with a comma behind each.
 fn add_items(all: &mut Blob, list: &ListBody) -> Result<(), NoMemory> {
     for place in 0..list.len() {
@@ -65,8 +135,8 @@ fn add_items(all: &mut Blob, list: &ListBody) -> Result<(), NoMemory> {
 fn fill_list(alloc: Global, list: &mut ListBody) -> Result<(), NoMemory> {
     list.push_back(blob(alloc, b"a")?)?;
     list.push_front(blob(alloc, b"b")?)?;
-    list.extend_back(words(alloc, &[b"a", b"c", b"a", b"d"])?)?;
-    list.extend_front(words(alloc, &[b"x", b"a"])?)
+    list.extend_back(blobs(alloc, &[b"a", b"c", b"a", b"d"])?)?;
+    list.extend_front(blobs(alloc, &[b"x", b"a"])?)
 }
 
 fn take_last(alloc: Global, list: &mut ListBody) -> Result<(), NoMemory> {
@@ -79,7 +149,7 @@ fn take_last(alloc: Global, list: &mut ListBody) -> Result<(), NoMemory> {
 
 // A list without the first two `a`, and one without the last two.
 fn lists(alloc: Global, all: &mut Blob) -> Result<(), NoMemory> {
-    let mut list = ListBody::new(alloc);
+    let mut list = ListBody::new(alloc)?;
     fill_list(alloc, &mut list)?;
     let mut copy = list.copy(alloc)?;
     copy.remove_first(2, b"a");
@@ -134,8 +204,34 @@ fn add_twice(alloc: Global, all: &mut Blob, hash: &mut HashBody) -> Result<(), N
     add_fields(all, hash)
 }
 
+// Takes out names: how many there were.
+fn take_out(hash: &mut HashBody, alloc: Global, names: &[&[u8]]) -> Result<usize, NoMemory> {
+    let names = words(alloc, names)?;
+    hash.remove_all(alloc, names.from_place(0))
+}
+
+const MANY: &[&[u8]] = &[
+    b"0", b"g", b"1", b"g", b"", b"2", b"3", b"4", b"h", b"5", b"6", b"7",
+];
+
+// How many fields a call on one name and one on many take out.
+fn taken_out(alloc: Global, keys: RandomState) -> Result<[usize; 3], NoMemory> {
+    let mut hash = HashBody::new(alloc, keys)?;
+    fill_hash(alloc, &mut hash)?;
+    let none = take_out(&mut hash, alloc, &[b"x"])?;
+    let many = take_out(&mut hash, alloc, MANY)?;
+    let one = take_out(&mut hash, alloc, &[b"f"])?;
+    Ok([none, many, one])
+}
+
+#[test]
+fn names_are_taken_out_together(rt: HostRuntime) -> Result<(), Fail> {
+    assert_eq!(rt; taken_out(rt.alloc(), RandomState::new(&rt)?)?, [0, 2, 1]);
+    Ok(())
+}
+
 fn hashes(alloc: Global, keys: RandomState, all: &mut Blob) -> Result<(), NoMemory> {
-    let mut hash = HashBody::new(alloc, keys);
+    let mut hash = HashBody::new(alloc, keys)?;
     add_twice(alloc, all, &mut hash)
 }
 
@@ -225,8 +321,8 @@ fn saved(alloc: Global) -> Result<[usize; 3], NoMemory> {
 
 fn held(alloc: Global, keys: RandomState) -> Result<[usize; 3], NoMemory> {
     Ok([
-        doubled(alloc, ListBody::new(alloc))?,
-        doubled(alloc, HashBody::new(alloc, keys))?,
+        doubled(alloc, ListBody::new(alloc)?)?,
+        doubled(alloc, HashBody::new(alloc, keys)?)?,
         doubled(alloc, Refusal::Syntax.reply(alloc)?)?,
     ])
 }

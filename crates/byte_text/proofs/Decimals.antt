@@ -1,6 +1,7 @@
 -- Serves the laws `decimals_are_canonical` and `decimals_are_short`, and `value` of `read_u64` and
 -- `read_i64`.
-use Rattle.std.proofs.Common.{◌≡◌, ◌≢◌, ◌<◌, ◌^◌, ◌&&◌, if◌then◌else◌, nat_lt, ℕ, suc, ℤ, pos, negsuc, Bool, true, false, List, [], ◌∷◌, drop, get_or, Option, Some, None, ap, ◌∙◌, inl, inr, refl, arith, FitsSigned}
+use Rattle.std.proofs.Common.{◌≡◌, ◌≢◌, ◌<◌, ◌^◌, ◌&&◌, if◌then◌else◌, nat_lt, ℕ, suc, ℤ, pos, negsuc, Bool, true, false, List, [], ◌∷◌, drop, get_or, Option, Some, None, ap, ◌∙◌, inl, inr, refl, arith, subst, FitsSigned}
+use Rattle.std.specs.Prelude.{unwrap_or}
 use Rattle.std.specs.Int.{w64}
 use Rattle.std.specs.Fmt.{decimal, signed_decimal}
 use Rattle.std.specs.Str.{bytes_eq}
@@ -10,7 +11,7 @@ use Rattle.std.proofs.lemmas.Fmt.{decimal_is_IsNumeral, length-decimal-le}
 use Rattle.std.proofs.lemmas.Int.{ints}
 use Rattle.std.proofs.lemmas.Slice.Eq.{bytes_eq-Decides}
 use Rattle.std.proofs.lemmas.Str.Parse.{digit_at, digit_from_value, without_leading_plus_none}
-use Rattle.byte_text.specs.Number.{u64_of, i64_of, fits_i64, IsShort, IsDigit, AreDigits, AreSignedDigits}
+use Rattle.byte_text.specs.Number.{u64_of, i64_of, fits_i64, number_held, number_in, IsShort, IsDigit, AreDigits, AreSignedDigits}
 
 -- what a test that was passed says
 some_if : {A : Type 0} (test : Bool) (value n : A) → (if test then Some value else None) ≡ Some n → (test ≡ true) × (value ≡ n)
@@ -126,3 +127,15 @@ signed_decimal-digits (pos n) h =
     let small : n < 2 ^ 64 = omega (arith, ints) in
     (inl (first_digit n small), digits-drop (decimal n) (decimal-digits n small))
 signed_decimal-digits (negsuc n) h = (inr refl, decimal-digits (suc n) (omega (arith, ints)))
+
+read-fits : (text : List ℕ) (read : Option ℤ) → i64_of text ≡ read → FitsSigned w64 (unwrap_or read (pos 0))
+read-fits text None e = is_fit (pos 0) refl
+read-fits text (Some n) e = (i64_of-only text n e).0
+
+pub number_in-fits : (text : List ℕ) → FitsSigned w64 (number_in text)
+unfolding number_in
+number_in-fits text = read-fits text (i64_of text) refl
+
+pub number_held-fits : (held : Option (List ℕ)) (n : ℤ) → number_held held ≡ Some n → FitsSigned w64 n
+number_held-fits None n e = subst (λ (k : Option ℤ). FitsSigned w64 (unwrap_or k (pos 0))) e (is_fit (pos 0) refl)
+number_held-fits (Some text) n e = (i64_of-only text n e).0

@@ -1,5 +1,5 @@
 -- The numbers whose canonical decimals are given, and how decimals look.
-use Rattle.std.specs.Prelude.{◌≡◌, ◌^◌, ◌<◌, ◌≤◌, ◌&&◌, ◌⊎◌, if◌then◌else◌, nat_lt, ℕ, ℤ, pos, negsuc, Bool, List, length, drop, slice_index, Option, Some, None}
+use Rattle.std.specs.Prelude.{◌≡◌, ◌^◌, ◌<◌, ◌≤◌, ◌&&◌, ◌⊎◌, if◌then◌else◌, nat_lt, ℕ, ℤ, pos, negsuc, Bool, List, length, drop, slice_index, Option, Some, None, unwrap_or}
 use Rattle.std.specs.List.{AllByRecursion}
 use Rattle.std.specs.Fmt.{decimal, signed_decimal}
 use Rattle.std.specs.Str.{bytes_eq}
@@ -23,6 +23,15 @@ unfoldable pub i64_of : List ℕ → Option ℤ
 i64_of text =
     let n = signed_digits_value 10 text in
     if fits_i64 n && bytes_eq text (signed_decimal n) then Some n else None
+
+-- the same, or 0 where the text is that of none
+unfoldable pub number_in : List ℕ → ℤ
+number_in text = unwrap_or (i64_of text) (pos 0)
+
+-- the number that a text holds which may be missing, 0 where it is
+abbrev pub number_held : Option (List ℕ) → Option ℤ
+number_held None = Some (pos 0)
+number_held (Some text) = i64_of text
 
 -- from one to twenty bytes
 pub record IsShort (text : List ℕ) : Type 0 where

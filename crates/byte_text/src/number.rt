@@ -4,7 +4,7 @@ ghost use Rattle.std.specs.Prelude.{◌≡◌, ◌≢◌, ◌<◌, ◌≤◌, �
 ghost use Rattle.std.specs.Int.{w64};
 ghost use Rattle.std.specs.Fmt.{decimal, signed_decimal};
 ghost use Rattle.std.specs.Str.Parse.{AllDigits, digits_value};
-ghost use Rattle.byte_text.specs.Number.{i64_of, u64_of};
+ghost use Rattle.byte_text.specs.Number.{i64_of, number_in, u64_of};
 
 // How far the least i64 is from zero.
 const LEAST: u64 = 1 << 63;
@@ -21,6 +21,14 @@ pub fn read_i64(text: &[u8]) -> Option<i64>
         [b'-', digits @ ..] => below_zero(read_u64(digits)?),
         _ => i64::try_from(read_u64(text)?).ok(),
     }
+}
+
+/// The number whose canonical decimal this text is, or 0 where it is that of no i64.
+#[tactic(auto, unfolding(crate::specs::Number::number_in))]
+pub fn number_in(text: &[u8]) -> i64
+    ensures value { result ≡ number_in text.now }
+{
+    read_i64(text).unwrap_or(0)
 }
 
 // The number this far below zero, where it is below zero and an i64.

@@ -29,7 +29,7 @@ impl ModuleValue for Sample {
 fn words_of(alloc: Global, line: &[u8]) -> Result<Args, NoMemory> {
     let mut words = Args::new(alloc);
     for word in line.split(|byte| *byte == b' ') {
-        words.push(Blob::from_slice(alloc, word)?)?;
+        words.push(word)?;
     }
     Ok(words)
 }
@@ -110,9 +110,9 @@ fn show_reply(text: &mut Blob, reply: &Reply) -> Result<(), NoMemory> {
 fn show_effects(text: &mut Blob, effects: &Effects) -> Result<(), NoMemory> {
     for effect in effects.as_slice() {
         text.push_slice(b" >")?;
-        for word in effect.words.as_slice() {
+        for word in effect.words.from_place(0) {
             text.push(b' ')?;
-            text.push_slice(word.as_slice())?;
+            text.push_slice(word)?;
         }
     }
     Ok(())
@@ -176,7 +176,7 @@ impl Served {
         text: &mut Blob,
     ) -> Result<(), NoMemory> {
         let cmd = match words.get(0) {
-            Some(name) => command_of(name.as_slice()),
+            Some(name) => command_of(name),
             None => None,
         };
         match cmd {

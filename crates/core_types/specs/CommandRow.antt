@@ -1,5 +1,5 @@
 -- What is known of a command before it runs.
-use Rattle.std.specs.Prelude.{ℕ, ℤ, pos, negsuc, ◌+◌, ◌==◌, nat_le, Bool, IsTrue, List, length}
+use Rattle.std.specs.Prelude.{ℕ, ℤ, pos, negsuc, ◌+◌, ◌==◌, nat_le, Bool, true, false, IsTrue, List, length}
 use Rattle.core_types.specs.declared.command_spec.CommandSpec.{CommandSpec}
 
 -- its name, its number of words, whether it is written into a log, and the place of its key among
@@ -9,6 +9,14 @@ pub record CommandRow : Type 0 where
   pub arity : ℤ
   pub writes : Bool
   pub key : ℕ
+
+-- a command of this name and number of words (-3 for at least 3) that changes no key
+abbrev pub reading : List ℕ → ℤ → CommandRow
+reading name arity = record { name = name; arity = arity; writes = false; key = 1 }
+
+-- one that can change its key
+abbrev pub writing : List ℕ → ℤ → CommandRow
+writing name arity = record { name = name; arity = arity; writes = true; key = 1 }
 
 abbrev pub row_of_spec : CommandSpec → CommandRow
 row_of_spec spec =

@@ -1,12 +1,13 @@
 -- What a command on one key does: to its value, and beside it.
 use Rattle.std.proofs.Common.{inl, inr}
-use Rattle.std.specs.Prelude.{◌≡◌, ◌⊎◌, ⊤, ℕ, List, [], ◌∷◌, drop, Option, Some, None}
+use Rattle.std.specs.Prelude.{◌≡◌, ◌⊎◌, ⊤, ℕ, List, [], ◌∷◌, drop, codes, Option, Some, None}
 use Rattle.std.specs.Borrow.{MutBor}
-pub use Rattle.sequences.specs.Words.{word}
+use Rattle.sequences.specs.Words.{word}
 use Rattle.core_types.specs.Refusals.{refused}
 use Rattle.core_types.specs.declared.effect.Effect.{Effect}
 use Rattle.core_types.specs.declared.note.Note.{Note}
 use Rattle.core_types.specs.declared.note.NoteClass.{NoteClass}
+use Rattle.core_types.specs.declared.note.NoteClass.TheVariants as classes
 use Rattle.core_types.specs.declared.refusal.Refusal.{Refusal}
 use Rattle.core_types.specs.declared.reply.Reply.{Reply}
 use Rattle.core_types.specs.declared.outcome.After.{After}
@@ -88,3 +89,7 @@ own_words name words = record { words = name ∷ drop 1 words }
 -- the event of this name on the key that stands behind the command's name
 abbrev pub note_on_key : NoteClass → List ℕ → List (List ℕ) → Note
 note_on_key class name words = record { class = class; name = name; key = word 1 words }
+
+-- the event that this key is removed
+abbrev pub del_note : List (List ℕ) → Note
+del_note words = note_on_key classes.Generic (codes "del") words

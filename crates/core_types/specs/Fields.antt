@@ -31,3 +31,7 @@ without_field (field ∷ fields) name =
 -- no name stands twice
 abbrev pub AreDistinct : List Field → Type 0
 AreDistinct fields = IsDistinct bytes_eq (map (λ field. field.name) fields)
+
+-- names are taken out, one after the other
+abbrev pub without_fields : List Field → List (List ℕ) → List Field
+without_fields fields names = fold without_field fields names

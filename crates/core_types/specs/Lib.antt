@@ -14,3 +14,7 @@ pub mod HashEntries
 pub mod CommandRow
 pub mod Keyspace
 pub mod KeyLaws
+pub mod Limits
+pub mod Answers
+pub mod CommandLaws
+pub mod inner

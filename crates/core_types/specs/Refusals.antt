@@ -1,5 +1,5 @@
 -- The errors that a command is refused with.
-use Rattle.std.specs.Prelude.{ℕ, List, ◌++◌, map, take, codes}
+use Rattle.std.specs.Prelude.{◌≡◌, ℕ, ℤ, List, ◌++◌, map, take, codes, Option, Some, None}
 use Rattle.std.specs.Char.{to_ascii_lowercase}
 use Rattle.core_types.specs.Printable.{printable}
 use Rattle.core_types.specs.declared.refusal.Refusal.{Refusal}
@@ -23,6 +23,20 @@ refusal_text refusals.TooLong = codes "ERR string exceeds maximum allowed size (
 
 abbrev pub refused : Refusal → Reply
 refused refusal = replies.Error (refusal_text refusal)
+
+-- a reply that is an error
+abbrev pub IsRefusal : Reply → Type 0
+IsRefusal said = (text : List ℕ) × (said ≡ replies.Error text)
+
+-- a word is refused that writes no number
+abbrev pub no_number : Option ℤ → Option Refusal
+no_number None = Some refusals.NotAnInteger
+no_number (Some n) = None
+
+-- the first refusal, or where there is none the second
+abbrev pub or_else : Option Refusal → Option Refusal → Option Refusal
+or_else None second = second
+or_else (Some first) second = Some first
 
 -- of a command by its name, in any case of letters
 abbrev pub wrong_arity : List ℕ → Reply

@@ -1,9 +1,9 @@
 //! Words of a change to be done again, and of a module's answer to a note.
 
-ghost use Rattle.std.specs.Prelude.{◌≡◌, ◌<◌, ◌++◌, [], ◌∷◌, length, IfOk, OnOk};
+ghost use Rattle.std.specs.Prelude.{◌≡◌, ◌<◌, [], ◌∷◌, length, IfOk};
 ghost use Rattle.core_types.specs.Done.{own_words};
 
-use crate::{Args, Blob, Duplicate, NoMemory, Sequence};
+use crate::{Args, Duplicate, NoMemory, Sequence, Words};
 use std::alloc::Global;
 
 /// One change of the keys, as the words of a command that makes it.
@@ -19,10 +19,12 @@ impl Effect {
         requires { 0 < length words.now }
         ensures words { IfOk result (λ effect. effect ≡ own_words name.now words.now) }
     {
+        let bytes = name.len().saturating_add(size_of(words.from_place(1)));
         let mut copied = Args::new(alloc);
-        push_copy(alloc, &mut copied, name)?;
-        for word in &words.as_slice()[1..] {
-            push_copy(alloc, &mut copied, word.as_slice())?;
+        copied.reserve(words.len(), bytes)?;
+        copied.push(name)?;
+        for word in words.from_place(1) {
+            copied.push(word)?;
         }
         Ok(Effect { words: copied })
     }
@@ -32,19 +34,26 @@ impl Effect {
         ensures words { IfOk result
             (λ effect. effect ≡ record { words = name.now ∷ key.now ∷ value.now ∷ [] }) }
     {
+        let bytes = name
+            .len()
+            .saturating_add(key.len())
+            .saturating_add(value.len());
         let mut words = Args::new(alloc);
-        push_copy(alloc, &mut words, name)?;
-        push_copy(alloc, &mut words, key)?;
-        push_copy(alloc, &mut words, value)?;
+        words.reserve(3, bytes)?;
+        words.push(name)?;
+        words.push(key)?;
+        words.push(value)?;
         Ok(Effect { words })
     }
 }
 
-// Adds a copy of a word at the end.
-fn push_copy(alloc: Global, words: &mut Args, word: &[u8]) -> Result<(), NoMemory>
-    ensures ok { OnOk result (words.new ≡ words.old ++ word.now ∷ []) }
-{
-    words.push(Blob::from_slice(alloc, word)?)
+// The number of bytes of these words, to take memory for them.
+fn size_of(words: Words<'_>) -> usize {
+    let mut size: usize = 0;
+    for word in words {
+        size = size.saturating_add(word.len());
+    }
+    size
 }
 
 /// The changes of one event, in order.

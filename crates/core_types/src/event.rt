@@ -2,6 +2,12 @@
 
 use crate::{Args, BadRequest, Blob, Duplicate, NoMemory, Sequence};
 use std::alloc::Global;
+use std::mem::size_of;
+
+// An event is at most 16 bytes wider than its words.
+const _: () = prove!(size_of::<Args>() == 48);
+
+const _: () = prove!(size_of::<Event>() <= 64);
 
 /// One event of the machine.
 #[derive(Debug, Drop)]
@@ -69,6 +75,8 @@ pub enum Answer {
     Closed,
     /// No ticket had this number.
     NeverIssued,
+    /// The ticket waits on a key, and is answered once that is there.
+    OnKey,
     /// No ticket waits to be answered.
     NothingReady,
     /// This ticket was answered.

@@ -1,25 +1,22 @@
 //! The value of a hash: fields in order of insertion, found by name.
 
-ghost use Rattle.std.specs.Prelude.{◌≡◌, ◌==◌, ◌+◌, ◌<◌, ◌≤◌, ◌^◌, List, ℕ, [], ◌∷◌, length, is_some, slice_get, IfOk, OnOk, OnErr};
+ghost use Rattle.std.specs.Prelude.{◌≡◌, ◌==◌, ◌+◌, ◌<◌, ◌^◌, [], length, slice_get, IfOk, OnOk, OnErr};
 ghost use Rattle.std.specs.Option.{option_copied, option_map};
-ghost use Rattle.indexmap.specs.IndexMap.{index_map_len, set_value_at, spare, values};
-ghost use Rattle.core_types.specs.HashEntries.{fields_of};
-ghost use Rattle.core_types.specs.Fields.{field_value, with_field, with_fields, without_field, AreDistinct};
+ghost use Rattle.core_types.specs.Fields.{field_value, with_field, with_fields, without_field, without_fields, AreDistinct};
 
-use crate::{Blob, Duplicate, Field, Fields, NoMemory};
+use crate::field_map::{self, FieldMap};
+use crate::{Blob, Duplicate, Fields, NoMemory, Words};
 use indexmap::IndexMap;
 use std::alloc::Global;
-use std::collections::VecDeque;
 use std::hash::RandomState;
 use std::marker::Model;
-use std::mem;
 
 /// Fields in order of insertion, with distinct names. Finding a name and putting a field cost O(1)
 /// expected, under any names: they are hashed with the keys that `new` was given, which clients
 /// don't know.
 #[derive(Debug, Drop)]
 pub struct HashBody {
-    fields: IndexMap<Vec<u8>, Blob, RandomState>,
+    fields: Box<FieldMap>,
 }
 
 impl Model for HashBody {
@@ -30,26 +27,32 @@ impl Model for HashBody {
 
     ghost use Rattle.core_types.specs.HashEntries.{fields_of};
 
-    ghost view = { λ h. fields_of h.fields.entries };
+    ghost view = { λ h. fields_of h.fields.value.entries };
 }
 
 impl HashBody {
-    /// No fields. Names will be hashed with these keys. Takes no memory.
-    pub fn new(alloc: Global, keys: RandomState) -> HashBody
-        ensures empty { result ≡ [] }
+    /// No fields. Names will be hashed with these keys. It takes memory for itself.
+    pub fn new(alloc: Global, keys: RandomState) -> Result<HashBody, NoMemory>
+        ensures empty { IfOk result (λ hash. hash ≡ []) }
     {
-        HashBody {
-            fields: IndexMap::with_hasher(alloc, keys),
-        }
+        Ok(HashBody {
+            fields: Box::new(alloc, IndexMap::with_hasher(alloc, keys))?,
+        })
     }
 
     /// The number of fields.
     pub fn len(&self) -> usize
         ensures length { result ≡ length self.now }
         ensures bounded { length self.now < 2 ^ 63 }
+    {
+        field_map::count(&self.fields)
+    }
+
+    /// No name stands twice.
+    pub fn has_distinct_names(&self)
         ensures distinct { AreDistinct self.now }
     {
-        self.fields.len()
+        field_map::has_distinct_names(&self.fields);
     }
 
     /// Whether there is no field.
@@ -63,7 +66,7 @@ impl HashBody {
     pub fn get(&self, name: &[u8]) -> Option<&Blob>
         ensures value { option_copied result ≡ field_value self.now name.now }
     {
-        self.fields.get(name)
+        field_map::value_of(&self.fields, name)
     }
 
     /// The name of the field at a place, counted from 0, or `None` past the end.
@@ -92,13 +95,7 @@ impl HashBody {
             (self.new ≡ with_field self.old (record { name = name.now; value = value })) }
         ensures err { OnErr result (self.new ≡ self.old) }
     {
-        match self.fields.get_index_of(name) {
-            Some(place) => Ok(Some(replace(&mut self.fields, place, value))),
-            None => {
-                let name = Vec::from_slice(alloc, name)?;
-                Ok(self.fields.insert(name, value)?)
-            }
-        }
+        field_map::put(alloc, &mut self.fields, name, value)
     }
 
     /// Takes out a name: its value, where there was one. The other fields keep their order. Takes
@@ -107,7 +104,18 @@ impl HashBody {
         ensures before { result ≡ field_value self.old name.now }
         ensures left { self.new ≡ without_field self.old name.now }
     {
-        self.fields.shift_remove(name)
+        field_map::remove(&mut self.fields, name)
+    }
+
+    /// Takes out names: how many there were. The other fields keep their order. All of them are
+    /// taken out or none. The cost is linear in the fields and the names together, and a few names
+    /// take no memory.
+    pub fn remove_all(&mut self, alloc: Global, names: Words<'_>) -> Result<usize, NoMemory>
+        ensures left { OnOk result (self.new ≡ without_fields self.old names.entry) }
+        ensures count { IfOk result (λ n. n + length self.new ≡ length self.old) }
+        ensures err { OnErr result (self.new ≡ self.old) }
+    {
+        field_map::remove_all(alloc, &mut self.fields, names)
     }
 
     /// Puts fields, one after the other. All of them are put or none. Each takes O(1) expected.
@@ -115,7 +123,7 @@ impl HashBody {
         ensures ok { OnOk result (self.new ≡ with_fields self.old fields) }
         ensures err { OnErr result (self.new ≡ self.old) }
     {
-        put_all(&mut self.fields, fields.into_vec())
+        field_map::put_all(&mut self.fields, fields.into_vec())
     }
 
     /// A second hash of the same fields, with names hashed by the same keys.
@@ -123,7 +131,7 @@ impl HashBody {
         ensures same { IfOk result (λ hash. hash ≡ self.now) }
     {
         Ok(HashBody {
-            fields: copied(alloc, &self.fields)?,
+            fields: Box::new(alloc, field_map::copied(alloc, &self.fields)?)?,
         })
     }
 }
@@ -131,66 +139,5 @@ impl HashBody {
 impl Duplicate for HashBody {
     fn duplicate(&self, alloc: Global) -> Result<HashBody, NoMemory> {
         self.copy(alloc)
-    }
-}
-
-type Map = IndexMap<Vec<u8>, Blob, RandomState>;
-
-fn copied(alloc: Global, fields: &Map) -> Result<Map, NoMemory>
-    ensures same { IfOk result (λ copies. fields_of copies.entries ≡ fields_of fields.now.entries) }
-{
-    let mut copies = IndexMap::with_hasher(alloc, *fields.hasher());
-    copies.reserve(fields.len())?;
-    for place in 0..fields.len() {
-        let (name, value) = fields.get_index(place).unwrap();
-        insert_copy(alloc, &mut copies, name, value)?;
-    }
-    Ok(copies)
-}
-
-// Puts a copy of a field.
-fn insert_copy(alloc: Global, fields: &mut Map, name: &[u8], value: &Blob) -> Result<(), NoMemory>
-    ensures ok { OnOk result
-        (fields_of fields.new.entries
-        ≡ with_field (fields_of fields.old.entries)
-        (record { name = name.now; value = value.now })) }
-{
-    fields.insert(Vec::from_slice(alloc, name)?, value.copy(alloc)?)?;
-    Ok(())
-}
-
-fn put_all(fields: &mut Map, more: Vec<Field>) -> Result<(), NoMemory>
-    ensures ok { OnOk result
-        (fields_of fields.new.entries ≡ with_fields (fields_of fields.old.entries) more.items) }
-    ensures err { OnErr result (fields_of fields.new.entries ≡ fields_of fields.old.entries) }
-{
-    let mut more = VecDeque::from_vec(more);
-    fields.reserve(more.len())?;
-    while let Some(field) = more.pop_front() {
-        put_reserved(fields, field);
-    }
-    Ok(())
-}
-
-// Puts a value in the place of another, which is given back.
-fn replace(fields: &mut Map, place: usize, value: Blob) -> Blob
-    requires { place < index_map_len fields.old }
-    ensures before { slice_get (values fields.old) place ≡ Some result }
-    ensures written { fields.new.entries ≡ set_value_at fields.old.entries place value }
-{
-    let (_, there) = fields.pair_mut(place);
-    mem::replace(there, value)
-}
-
-// Puts a field where there is room for it.
-fn put_reserved(fields: &mut Map, field: Field)
-    requires { 0 < spare fields.old }
-    ensures put { fields_of fields.new.entries ≡ with_field (fields_of fields.old.entries) field }
-    ensures room { spare fields.old ≤ spare fields.new + 1 }
-{
-    let Field { name, value } = field;
-    match fields.insert(name.into_vec(), value) {
-        Ok(_) => {}
-        Err(_) => unreachable!(),
     }
 }

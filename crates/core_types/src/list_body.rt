@@ -12,26 +12,27 @@ use std::collections::VecDeque;
 use std::marker::Model;
 use std::mem;
 
-/// Byte strings in order. Adding and taking at either end and looking at a place cost O(1).
+/// Byte strings in order, behind one pointer. Adding and taking at either end and looking at a
+/// place cost O(1).
 #[derive(Debug, Drop)]
 pub struct ListBody {
-    items: VecDeque<Blob>,
+    items: Box<VecDeque<Blob>>,
 }
 
 impl Model for ListBody {
     ghost Value = { List (List ℕ) };
 
-    ghost view = { λ l. l.items.items };
+    ghost view = { λ l. l.items.value.items };
 }
 
 impl ListBody {
-    /// The empty list. Takes no memory.
-    pub fn new(alloc: Global) -> ListBody
-        ensures empty { result ≡ [] }
+    /// The empty list. It takes memory for itself.
+    pub fn new(alloc: Global) -> Result<ListBody, NoMemory>
+        ensures empty { IfOk result (λ list. list ≡ []) }
     {
-        ListBody {
-            items: VecDeque::new(alloc),
-        }
+        Ok(ListBody {
+            items: Box::new(alloc, VecDeque::new(alloc))?,
+        })
     }
 
     /// A second list of the same items.
@@ -39,7 +40,7 @@ impl ListBody {
         ensures same { IfOk result (λ list. list ≡ self.now) }
     {
         Ok(ListBody {
-            items: copied(alloc, &self.items)?,
+            items: Box::new(alloc, copied(alloc, &self.items)?)?,
         })
     }
 

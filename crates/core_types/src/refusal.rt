@@ -2,7 +2,7 @@
 
 ghost use Rattle.std.specs.Prelude.{◌≡◌, ◌++◌, map, codes, IfOk, OnOk};
 ghost use Rattle.std.specs.Char.{to_ascii_lowercase};
-ghost use Rattle.core_types.specs.Refusals.{refusal_text, refused, wrong_arity, invalid_expire, unknown_command};
+ghost use Rattle.core_types.specs.Refusals.{refusal_text, no_number, refused, wrong_arity, invalid_expire, unknown_command};
 
 use crate::{Blob, NoMemory, Reply};
 use std::alloc::Global;
@@ -53,6 +53,16 @@ impl Refusal {
             Refusal::DatabaseOutOfRange => b"ERR DB index is out of range",
             Refusal::Syntax => b"ERR syntax error",
             Refusal::TooLong => b"ERR string exceeds maximum allowed size (536870912 bytes)",
+        }
+    }
+
+    /// For what a word is refused that is to be a number, where this is what was read of it.
+    pub fn no_number(read: Option<i64>) -> Option<Refusal>
+        ensures none { result ≡ no_number read }
+    {
+        match read {
+            Some(_) => None,
+            None => Some(Refusal::NotAnInteger),
         }
     }
 

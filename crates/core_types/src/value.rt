@@ -1,7 +1,13 @@
 //! What a key holds.
 
 use crate::{Blob, HashBody, ListBody};
+use std::mem::size_of;
 use type_ids::TypeName;
+
+// A value is no wider than its byte string and a tag.
+const _: () = prove!(size_of::<Value<u64>>() == 32);
+
+const _: () = prove!(size_of::<Value<Blob>>() == 32);
 
 /// The type of a value.
 #[derive(Clone, Copy, Debug, PartialEq, Eq)]

@@ -15,7 +15,7 @@ use Rattle.resp_codec.specs.declared.array.Array.TheVariants as array
 use Rattle.resp_codec.proofs.OneReading.{fault_one, request_no_fault, skip_no_fault}
 use Rattle.effect_log.specs.Unit.{multi, exec, effect_text, is_named, IsLoggable}
 use Rattle.effect_log.specs.Log.{effects_text, IsRequestNamed, BeginsNamed}
-use Rattle.effect_log.specs.Entry.{IsNamedFront, IsEntry}
+use Rattle.effect_log.specs.Entry.{IsNamedFront, IsEntry, IsEntryOf}
 use Rattle.effect_log.specs.declared.entry.Entry.{Entry}
 use Rattle.effect_log.specs.declared.entry.Entry.TheVariants as entry
 use Rattle.effect_log.specs.declared.reason.Reason.TheVariants as reason
@@ -94,6 +94,24 @@ request_entry bytes words size false true is_multi is_exec begins is =
     (entry.Exec size, record { words = words; request = begins.request; named = is_exec; whole = front_rest bytes (multibulk words) begins.more size begins.whole is; size_is = is })
 request_entry bytes words size false false is_multi is_exec begins is =
     (entry.Effect record { words = words } size, record { loggable = record { request = begins.request; opens_none = is_multi; closes_none = is_exec }; whole = front_rest bytes (multibulk words) begins.more size begins.whole is; size_is = is })
+
+-- a request is what its words are to the unit
+pub IsEntry-request : (bytes : List ℕ) (words : List (List ℕ)) (size : ℕ) (e : Entry) → IsFront bytes (array.Request words size) → IsEntryOf words size e → IsEntry bytes e
+IsEntry-request bytes words size (entry.Multi taken) front of =
+    let takes : taken ≡ length (multibulk words) = of.0 ∙ front.1 in
+    record { words = words; request = front.0.request; named = of.1; whole = front_rest bytes (multibulk words) front.0.more taken front.0.whole takes; size_is = takes }
+IsEntry-request bytes words size (entry.Exec taken) front of =
+    let takes : taken ≡ length (multibulk words) = of.0 ∙ front.1 in
+    record { words = words; request = front.0.request; named = of.1; whole = front_rest bytes (multibulk words) front.0.more taken front.0.whole takes; size_is = takes }
+IsEntry-request bytes words size (entry.Effect effect taken) front of =
+    let takes : taken ≡ length (multibulk words) = of.0 ∙ front.1 in
+    rw of.1 record {
+      loggable = record { request = front.0.request; opens_none = of.2; closes_none = of.3 };
+      whole = front_rest bytes (multibulk words) front.0.more taken front.0.whole takes;
+      size_is = takes;
+    }
+IsEntry-request bytes words size entry.Unfinished front of = absurd of
+IsEntry-request bytes words size (entry.Bad place why) front of = absurd of
 
 array_entry : (bytes : List ℕ) (a : Array) → 0 < length bytes → IsFront bytes a → (e : Entry) × IsEntry bytes e
 array_entry bytes (array.Request words size) some front = request_entry bytes words size (is_named multi words) (is_named exec words) refl refl front.0 front.1

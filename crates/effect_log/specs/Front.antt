@@ -2,6 +2,7 @@
 use Rattle.std.specs.Prelude.{◌≡◌, ◌+◌, ◌<◌, ℕ, List, ◌++◌, length, drop, slice_get, Some}
 use Rattle.core_types.specs.declared.effect.Effect.{Effect}
 use Rattle.effect_log.specs.Log.{Unit, unit_bytes, effect_start, IsUnit, IsTorn, FaultAt}
+use Rattle.effect_log.specs.Entry.{IsEffectFront}
 use Rattle.effect_log.specs.declared.front.Front.{Front}
 use Rattle.effect_log.specs.declared.front.Front.TheVariants as front
 
@@ -22,5 +23,6 @@ pub record IsUnitFront (bytes : List ℕ) (offset : ℕ) (effects : List Effect)
 abbrev pub IsFront : List ℕ → ℕ → Front → Type 0
 IsFront bytes offset (front.Unit effects starts size) =
     IsUnitFront bytes offset effects starts.items size
+IsFront bytes offset (front.Lone effect size) = IsEffectFront bytes effect size
 IsFront bytes offset front.Torn = IsTorn bytes
 IsFront bytes offset (front.Bad place why) = FaultAt bytes why place × (place < length bytes)

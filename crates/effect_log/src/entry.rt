@@ -31,12 +31,12 @@ pub(crate) fn read_entry(alloc: Global, bytes: &[u8]) -> Result<Entry, NoMemory>
     if bytes.is_empty() {
         return Ok(Entry::Unfinished);
     }
-    Ok(match read_array(alloc, bytes)? {
-        Array::Request(words, size) => entry_of(words, size),
-        Array::Empty | Array::Other => Entry::Bad(0, Reason::NotMultibulk),
-        Array::Unfinished => Entry::Unfinished,
-        Array::Bad(kind, place) => Entry::Bad(place, Reason::Request(kind)),
-    })
+    match read_array(alloc, bytes)? {
+        Array::Request(words, size) => Ok(entry_of(words, size)),
+        Array::Empty | Array::Other => Ok(Entry::Bad(0, Reason::NotMultibulk)),
+        Array::Unfinished => Ok(Entry::Unfinished),
+        Array::Bad(kind, place) => Ok(Entry::Bad(place, Reason::Request(kind))),
+    }
 }
 
 // What a request is to its unit.
@@ -56,8 +56,8 @@ fn entry_of(words: Args, size: usize) -> Entry
 fn is_named(words: &Args, name: &[u8]) -> bool
     ensures { result ≡ spec.is_named name.now words.now }
 {
-    match words.as_slice() {
-        [] => false,
-        [first, ..] => first.as_slice().eq_ignore_ascii_case(name),
+    match words.get(0) {
+        Some(first) => first.eq_ignore_ascii_case(name),
+        None => false,
     }
 }

@@ -16,6 +16,8 @@ pub(crate) enum Front {
     /// A whole unit: its effects, where each of them begins in the log, and how many bytes it
     /// takes.
     Unit(Effects, Vec<u64>, usize),
+    /// A whole unit of one effect, and how many bytes it takes.
+    Lone(Effect, usize),
     /// A unit that was not written to its end.
     Torn,
     /// A fault of form: its place, and why.
@@ -31,12 +33,7 @@ pub(crate) fn read_unit(alloc: Global, bytes: &[u8], offset: u64) -> Result<Fron
     match read_entry(alloc, bytes)? {
         Entry::Multi(size) => read_enclosed(alloc, bytes, offset, size),
         Entry::Exec(_) => Ok(Front::Bad(0, Reason::LoneExec)),
-        Entry::Effect(effect, size) => {
-            let mut effects = Sequence::new(alloc);
-            let mut starts = Vec::new(alloc);
-            add_effect(&mut effects, &mut starts, effect, offset)?;
-            Ok(Front::Unit(effects, starts, size))
-        }
+        Entry::Effect(effect, size) => Ok(Front::Lone(effect, size)),
         Entry::Unfinished => Ok(Front::Torn),
         Entry::Bad(place, why) => Ok(Front::Bad(place, why)),
     }

@@ -1,6 +1,6 @@
 //! The units of a log, one after the other.
 
-ghost use Rattle.std.specs.Prelude.{◌≡◌, ◌<◌, ◌≤◌, ◌++◌, ◌≢◌, ◌⊎◌, ◌+◌, List, ℕ, length, take, slice_get, Ok, Some, OnErr};
+ghost use Rattle.std.specs.Prelude.{◌≡◌, ◌<◌, ◌≤◌, ◌++◌, ◌≢◌, ◌⊎◌, ◌+◌, List, ℕ, length, take, slice_get, [], ◌∷◌, Ok, Some, IfOk, OnOk, OnErr};
 ghost use Rattle.std.specs.List.{AllByRecursion};
 ghost use Rattle.core_types.specs.declared.effect.Effect.{Effect};
 ghost use Rattle.effect_log.specs.declared.reason.Reason.{Reason};
@@ -11,7 +11,7 @@ ghost use Rattle.effect_log.specs.Written.{AreLoggable, log_text, units_written}
 
 use crate::front::{Front, read_unit};
 use crate::reason::Reason;
-use core_types::{Effects, NoMemory};
+use core_types::{Effect, Effects, NoMemory, Sequence};
 use std::alloc::Global;
 use std::marker::Model;
 
@@ -88,6 +88,7 @@ impl<'a> LogReader<'a> {
                 self.pass(starts, size);
                 Ok(NextUnit::Unit(effects))
             }
+            Front::Lone(effect, size) => Ok(NextUnit::Unit(self.pass_lone(effect, size)?)),
             Front::Torn => Ok(NextUnit::Tail(self.place as u64)),
             Front::Bad(place, why) => Ok(NextUnit::Bad(self.place as u64 + place as u64, why)),
         }
@@ -102,6 +103,23 @@ impl<'a> LogReader<'a> {
     {
         self.place += size;
         self.starts = starts;
+    }
+
+    // Passes a unit of this effect alone, of this size, and gives its effects.
+    fn pass_lone(&mut self, effect: Effect, size: usize) -> Result<Effects, NoMemory>
+        requires { self.old.place + size ≤ length self.old.bytes }
+        ensures effects { IfOk result (λ effects. effects ≡ effect ∷ []) }
+        ensures ok { OnOk result (self.new ≡ record self.old
+            { place = self.old.place + size; starts = self.old.place ∷ [] }) }
+        ensures err { OnErr result (self.new ≡ self.old) }
+    {
+        let mut effects = Sequence::new(self.alloc);
+        effects.push(effect)?;
+        self.starts.reserve(1)?;
+        self.starts.clear();
+        self.starts.push_reserved(self.place as u64);
+        self.place += size;
+        Ok(effects)
     }
 
     /// The offset of an effect of the last unit that was taken, counted from 0. Takes no memory.

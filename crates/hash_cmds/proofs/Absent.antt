@@ -1,6 +1,7 @@
--- A command on a key that is not there. Serves clause does of run_absent.
+-- A command on a key that is not there. Serves clause does of run_fresh.
 use Rattle.std.proofs.Common.{◌≡◌, ◌≢◌, ◌⊎◌, inl, inr, ℕ, Bool, true, false, List, [], drop, Option, Some, None, if◌then◌else◌, refl, sym, ◌∙◌, subst, arith}
 use Rattle.core_types.specs.Done.{Change, Done, Does, Makes}
+use Rattle.core_types.specs.Fields.{without_fields}
 use Rattle.core_types.specs.declared.field.Field.{Field}
 use Rattle.core_types.specs.declared.outcome.After.{After}
 use Rattle.core_types.specs.declared.outcome.After.TheVariants as after
@@ -9,7 +10,7 @@ use Rattle.core_types.specs.declared.reply.Reply.{Reply}
 use Rattle.hash_cmds.specs.declared.command.HashCmd.{HashCmd}
 use Rattle.hash_cmds.specs.declared.command.HashCmd.TheVariants as command
 use Rattle.hash_cmds.specs.Words.{unless_wrong}
-use Rattle.hash_cmds.specs.Removing.{removed, without_fields}
+use Rattle.hash_cmds.specs.Removing.{removed}
 use Rattle.hash_cmds.specs.Rows.{row}
 
 -- nothing changes and nothing is told, or the key gets a value and something is told

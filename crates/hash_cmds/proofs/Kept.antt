@@ -6,12 +6,12 @@ use Rattle.std.specs.List.{AllByRecursion, IsDistinct}
 use Rattle.std.specs.Fmt.{signed_decimal}
 use Rattle.std.specs.Str.{bytes_eq}
 use Rattle.std.proofs.lemmas.Bool.Decides.{nat_tests}
-use Rattle.byte_text.specs.Number.{fits_i64, i64_of}
+use Rattle.byte_text.specs.Number.{fits_i64, i64_of, number_in, number_held}
 use Rattle.byte_text.proofs.Decimals.{is_fit, signed_decimal-short}
 use Rattle.core_types.specs.CommandRow.{MeetArity}
 use Rattle.core_types.specs.Done.{Done, answers}
 use Rattle.sequences.specs.Words.{word}
-use Rattle.core_types.specs.Fields.{AreDistinct, field_value, with_field, with_fields, without_field}
+use Rattle.core_types.specs.Fields.{AreDistinct, field_value, with_field, with_fields, without_field, without_fields}
 use Rattle.core_types.specs.Keyspace.{IsFieldOfStrings, IsString}
 use Rattle.core_types.specs.declared.field.Field.{Field}
 use Rattle.core_types.specs.declared.reply.Reply.{Reply}
@@ -19,12 +19,13 @@ use Rattle.core_types.specs.declared.reply.Reply.TheVariants as reply
 use Rattle.hash_cmds.specs.declared.command.HashCmd.{HashCmd}
 use Rattle.hash_cmds.specs.declared.command.HashCmd.TheVariants as command
 use Rattle.hash_cmds.specs.Commands.{command_row}
-use Rattle.hash_cmds.specs.Words.{fields_held, no_number, no_pairs, number, pairs, unless_wrong}
+use Rattle.hash_cmds.specs.Words.{fields_held, no_number, no_pairs, pairs, unless_wrong}
 use Rattle.hash_cmds.specs.Setting.{set_fields, sets, with_pairs}
-use Rattle.hash_cmds.specs.Removing.{remove_fields, removes, without_fields}
-use Rattle.hash_cmds.specs.Counting.{add, adds, number_held}
+use Rattle.hash_cmds.specs.Removing.{remove_fields, removes}
+use Rattle.hash_cmds.specs.Counting.{add, adds}
 use Rattle.hash_cmds.specs.Rows.{row}
-use Rattle.hash_cmds.specs.Laws.{IsKept, IsWithinLimits, KeepsLimits}
+use Rattle.core_types.specs.Limits.{IsWithinLimits}
+use Rattle.hash_cmds.specs.Laws.{IsKept, KeepsLimits}
 use Rattle.hash_cmds.proofs.Lengths.{length-with_fields}
 
 abbrev pub AreShort : List Field → Type 0
@@ -225,7 +226,7 @@ row_keeps command.HSetNx old words m h k =
 row_keeps command.HDel old words m h k = remove_keeps old words h k
 row_keeps command.HIncrBy old words m h k =
     unless_keeps old (no_number (i64_of (word 3 words))) (add (fields_held old) words) h
-    (adds_keep old (number 3 words) (number_held (field_value (fields_held old) (word 2 words))) words h k)
+    (adds_keep old (number_in (word 3 words)) (number_held (field_value (fields_held old) (word 2 words))) words h k)
 row_keeps command.HGet old words m h k = record { value = h; effects = tt }
 row_keeps command.HMGet old words m h k = record { value = h; effects = tt }
 row_keeps command.HLen old words m h k = record { value = h; effects = tt }

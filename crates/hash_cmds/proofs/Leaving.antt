@@ -3,11 +3,11 @@ use Rattle.std.proofs.Common.{◌≡◌, ◌-◌, ◌≤◌, ◌++◌, ℕ, suc,
 use Rattle.std.specs.Option.{option_to_list}
 use Rattle.std.specs.Str.{bytes_eq}
 use Rattle.core_types.specs.Done.{answers}
-use Rattle.core_types.specs.Fields.{without_field}
+use Rattle.core_types.specs.Fields.{without_field, without_fields}
 use Rattle.core_types.specs.declared.field.Field.{Field}
 use Rattle.core_types.specs.declared.note.Note.{Note}
 use Rattle.core_types.specs.declared.reply.Reply.TheVariants as reply
-use Rattle.hash_cmds.specs.Removing.{remove_fields, without_fields}
+use Rattle.hash_cmds.specs.Removing.{remove_fields}
 use Rattle.hash_cmds.proofs.Lengths.{length-without_fields}
 
 -- where no field went, the fields are the same

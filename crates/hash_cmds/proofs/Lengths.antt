@@ -1,11 +1,9 @@
--- How long the lists are that the commands make. Serves clauses more and few of sets, and count of
--- take_out.
+-- How long the lists are that the commands make. Serves clause more of sets, and clause does of
+-- remove_fields.
 use Rattle.std.proofs.Common.{◌+◌, ◌≤◌, ℕ, suc, Bool, true, false, List, [], ◌∷◌, length, if◌then◌else◌, arith}
 use Rattle.std.specs.Str.{bytes_eq}
 use Rattle.core_types.specs.declared.field.Field.{Field}
-use Rattle.core_types.specs.Fields.{with_field, with_fields, without_field}
-use Rattle.hash_cmds.specs.Removing.{without_fields}
-use Rattle.hash_cmds.specs.Words.{pairs}
+use Rattle.core_types.specs.Fields.{with_field, with_fields, without_field, without_fields}
 
 -- at most one more
 pub record Between (low high size : ℕ) : Type 0 where
@@ -44,8 +42,3 @@ length-without_fields fields (name ∷ names) =
     let one = length-without_field fields name in
     let rest = length-without_fields (without_field fields name) names in
     record { at_least = omega (arith, one.at_least, rest.at_least); at_most = omega (arith, one.at_most, rest.at_most) }
-
-pub length-pairs : (words : List (List ℕ)) → length (pairs words) ≤ length words
-length-pairs [] = omega arith
-length-pairs (name ∷ []) = omega arith
-length-pairs (name ∷ value ∷ rest) = let few = length-pairs rest in omega (arith, few)

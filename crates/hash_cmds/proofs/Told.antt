@@ -3,23 +3,25 @@
 use Rattle.std.proofs.Common.{◌≡◌, inl, inr, ◌%◌, if◌then◌else◌, ℕ, ℤ, pos, Bool, true, false, List, [], ◌∷◌, length, drop, codes, Option, Some, None, is_some, refl, sym, ap, ◌∙◌, arith}
 use Rattle.std.specs.Prelude.{◌+ℤ◌, ◌==◌}
 use Rattle.std.proofs.lemmas.Bool.Decides.{nat_tests}
-use Rattle.byte_text.specs.Number.{fits_i64, i64_of}
+use Rattle.byte_text.specs.Number.{fits_i64, i64_of, number_in, number_held}
 use Rattle.core_types.specs.CommandRow.{MeetArity}
 use Rattle.core_types.specs.Done.{Done, answers, own_words}
 use Rattle.sequences.specs.Words.{word}
-use Rattle.core_types.specs.Fields.{field_value}
+use Rattle.core_types.specs.Fields.{field_value, without_fields}
 use Rattle.core_types.specs.declared.field.Field.{Field}
 use Rattle.core_types.specs.declared.reply.Reply.{Reply}
 use Rattle.core_types.specs.declared.reply.Reply.TheVariants as reply
 use Rattle.hash_cmds.specs.declared.command.HashCmd.{HashCmd}
 use Rattle.hash_cmds.specs.declared.command.HashCmd.TheVariants as command
 use Rattle.hash_cmds.specs.Commands.{command_row}
-use Rattle.hash_cmds.specs.Words.{fields_held, hash_note, no_number, no_pairs, number, unless_wrong}
+use Rattle.hash_cmds.specs.Words.{fields_held, hash_note, no_number, no_pairs, unless_wrong}
 use Rattle.hash_cmds.specs.Setting.{set_fields, sets}
-use Rattle.hash_cmds.specs.Removing.{remove_fields, removed, removes, without_fields}
-use Rattle.hash_cmds.specs.Counting.{add, adds, becomes_number, number_held}
+use Rattle.hash_cmds.specs.Removing.{remove_fields, removed, removes}
+use Rattle.hash_cmds.specs.Counting.{add, adds, becomes_number}
 use Rattle.hash_cmds.specs.Rows.{other_row, refusal, row}
-use Rattle.hash_cmds.specs.Laws.{Acts, ChangesAtMostOnce, ChangesNothing, ChangesOnce, IsRefusal, Remakes}
+use Rattle.core_types.specs.CommandLaws.{Remakes, ChangesNothing}
+use Rattle.core_types.specs.Refusals.{IsRefusal}
+use Rattle.hash_cmds.specs.Laws.{Acts, ChangesAtMostOnce, ChangesOnce}
 
 -- on a key that holds these fields or is not there
 abbrev pub on_hash : Option (List Field) → Acts
@@ -33,7 +35,7 @@ unless acts key None done h = h refl
 unless acts key (Some said) done h = inl record { change = refl; effects = refl; notes = refl }
 
 -- own words are again own words
-remade : (old : Option (List Field)) (cmd : HashCmd) (name first : List ℕ) (rest : List (List ℕ)) (done : Done (List Field)) → (command_row cmd).name ≡ name → (command_row cmd).key ≡ 1 → MeetArity (command_row cmd) (name ∷ rest) → row cmd old (name ∷ rest) ≡ done → ¬ IsRefusal done.reply → Remakes (on_hash old) (word 1 (first ∷ rest)) done.change (name ∷ rest)
+remade : (old : Option (List Field)) (cmd : HashCmd) (name first : List ℕ) (rest : List (List ℕ)) (done : Done (List Field)) → (command_row cmd).name ≡ name → (command_row cmd).key ≡ 1 → MeetArity (command_row cmd) (name ∷ rest) → row cmd old (name ∷ rest) ≡ done → ¬ IsRefusal done.reply → Remakes command_row (on_hash old) (word 1 (first ∷ rest)) done.change (name ∷ rest)
 unfolding word
 remade old cmd name first rest done named key arity again good =
     record {
@@ -109,8 +111,8 @@ remove_told : (old : Option (List Field)) (first : List ℕ) (rest : List (List 
 unfolding word
 remove_told old first rest arity = removed_told old (without_fields (fields_held old) (drop 2 (first ∷ rest))) _ _ first rest refl arity refl
 
-sum_told : (old : Option (List Field)) (n : ℤ) (fitting : Bool) (first : List ℕ) (rest : List (List ℕ)) → number_held (field_value (fields_held old) (word 2 (first ∷ rest))) ≡ Some n → fits_i64 (n +ℤ number 3 (first ∷ rest)) ≡ fitting → no_number (i64_of (word 3 (first ∷ rest))) ≡ None → MeetArity (command_row command.HIncrBy) (first ∷ rest) → ChangesAtMostOnce (on_hash old) (word 1 (first ∷ rest)) (adds (fields_held old) (number 3 (first ∷ rest)) (Some n) (first ∷ rest))
-unfolding word number
+sum_told : (old : Option (List Field)) (n : ℤ) (fitting : Bool) (first : List ℕ) (rest : List (List ℕ)) → number_held (field_value (fields_held old) (word 2 (first ∷ rest))) ≡ Some n → fits_i64 (n +ℤ number_in (word 3 (first ∷ rest))) ≡ fitting → no_number (i64_of (word 3 (first ∷ rest))) ≡ None → MeetArity (command_row command.HIncrBy) (first ∷ rest) → ChangesAtMostOnce (on_hash old) (word 1 (first ∷ rest)) (adds (fields_held old) (number_in (word 3 (first ∷ rest))) (Some n) (first ∷ rest))
+unfolding word number_in
 sum_told old n false first rest held e good arity = rw e (answered _ _ _)
 sum_told old n true first rest held e good arity =
     rw e (inr record {
@@ -120,12 +122,12 @@ sum_told old n true first rest held e good arity =
       accepted = λ (text, g). cc;
       effects = refl;
       notes = refl;
-      remakes = remade old command.HIncrBy (codes "HINCRBY") first rest (becomes_number (fields_held old) (n +ℤ number 3 (first ∷ rest)) (first ∷ rest)) refl refl arity (rw (good, held, e) refl) (λ (text, g). cc);
+      remakes = remade old command.HIncrBy (codes "HINCRBY") first rest (becomes_number (fields_held old) (n +ℤ number_in (word 3 (first ∷ rest))) (first ∷ rest)) refl refl arity (rw (good, held, e) refl) (λ (text, g). cc);
       note_class = refl;
       note_key = refl;
     })
 
-added_told : (old : Option (List Field)) (held : Option ℤ) (first : List ℕ) (rest : List (List ℕ)) → number_held (field_value (fields_held old) (word 2 (first ∷ rest))) ≡ held → no_number (i64_of (word 3 (first ∷ rest))) ≡ None → MeetArity (command_row command.HIncrBy) (first ∷ rest) → ChangesAtMostOnce (on_hash old) (word 1 (first ∷ rest)) (adds (fields_held old) (number 3 (first ∷ rest)) held (first ∷ rest))
+added_told : (old : Option (List Field)) (held : Option ℤ) (first : List ℕ) (rest : List (List ℕ)) → number_held (field_value (fields_held old) (word 2 (first ∷ rest))) ≡ held → no_number (i64_of (word 3 (first ∷ rest))) ≡ None → MeetArity (command_row command.HIncrBy) (first ∷ rest) → ChangesAtMostOnce (on_hash old) (word 1 (first ∷ rest)) (adds (fields_held old) (number_in (word 3 (first ∷ rest))) held (first ∷ rest))
 added_told old None first rest e good arity = answered _ _ _
 added_told old (Some n) first rest e good arity = sum_told old n _ first rest e refl good arity
 

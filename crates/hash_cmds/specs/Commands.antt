@@ -1,16 +1,8 @@
 -- The commands on a hash, a row each.
-use Rattle.std.specs.Prelude.{ℕ, ℤ, pos, negsuc, true, false, List, codes}
-use Rattle.core_types.specs.CommandRow.{CommandRow}
+use Rattle.std.specs.Prelude.{pos, negsuc, codes}
+use Rattle.core_types.specs.CommandRow.{CommandRow, reading, writing}
 use Rattle.hash_cmds.specs.declared.command.HashCmd.{HashCmd}
 use Rattle.hash_cmds.specs.declared.command.HashCmd.TheVariants as command
-
--- a command of this name and number of words (-3 for at least 3) that changes no key
-abbrev pub reading : List ℕ → ℤ → CommandRow
-reading name arity = record { name = name; arity = arity; writes = false; key = 1 }
-
--- one that can change its key
-abbrev pub writing : List ℕ → ℤ → CommandRow
-writing name arity = record { name = name; arity = arity; writes = true; key = 1 }
 
 abbrev pub command_row : HashCmd → CommandRow
 command_row command.HSet = writing (codes "HSET") (negsuc 3)

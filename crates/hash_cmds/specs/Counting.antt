@@ -1,19 +1,14 @@
 -- HINCRBY: it adds to the number that a field holds.
-use Rattle.std.specs.Prelude.{ℕ, ℤ, pos, ◌+ℤ◌, if◌then◌else◌, List, codes, Option, Some, None}
+use Rattle.std.specs.Prelude.{ℕ, ℤ, ◌+ℤ◌, if◌then◌else◌, List, codes, Option, Some, None}
 use Rattle.std.specs.Fmt.{signed_decimal}
-use Rattle.byte_text.specs.Number.{i64_of, fits_i64}
+use Rattle.byte_text.specs.Number.{fits_i64, number_held, number_in}
 use Rattle.core_types.specs.Done.{Done, Change, refuses, changes, own_words}
 use Rattle.sequences.specs.Words.{word}
 use Rattle.core_types.specs.Fields.{field_value, with_field}
 use Rattle.core_types.specs.declared.field.Field.{Field}
 use Rattle.core_types.specs.declared.refusal.Refusal.TheVariants as refusal
 use Rattle.core_types.specs.declared.reply.Reply.TheVariants as reply
-use Rattle.hash_cmds.specs.Words.{hash_note, number}
-
--- the number that a field holds, 0 where it is not there
-abbrev pub number_held : Option (List ℕ) → Option ℤ
-number_held None = Some (pos 0)
-number_held (Some bytes) = i64_of bytes
+use Rattle.hash_cmds.specs.Words.{hash_note}
 
 -- the field gets the decimal of the sum
 abbrev pub becomes_number : List Field → ℤ → List (List ℕ) → Done (List Field)
@@ -30,4 +25,4 @@ adds held amount (Some n) words =
     else refuses refusal.Overflow
 
 abbrev pub add : List Field → List (List ℕ) → Done (List Field)
-add held words = adds held (number 3 words) (number_held (field_value held (word 2 words))) words
+add held words = adds held (number_in (word 3 words)) (number_held (field_value held (word 2 words))) words

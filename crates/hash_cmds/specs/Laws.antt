@@ -1,17 +1,13 @@
 -- What holds of every row.
-use Rattle.std.specs.Prelude.{◌≡◌, ◌≢◌, ◌<◌, ◌≤◌, ◌⊎◌, ⊤, ℕ, List, [], ◌∷◌, length, codes, Option, Some, None}
+use Rattle.std.specs.Prelude.{◌<◌, ◌⊎◌, ⊤, ℕ, List, length, Option, Some, None}
 use Rattle.std.specs.List.{AllByRecursion}
-use Rattle.core_types.specs.CommandRow.{MeetArity}
-use Rattle.core_types.specs.Done.{Change, Done, changed}
-use Rattle.sequences.specs.Words.{word}
+use Rattle.core_types.specs.CommandLaws.{ChangesNothing, removal_notes}
+use Rattle.core_types.specs.CommandLaws as every
+use Rattle.core_types.specs.Done.{Done}
 use Rattle.core_types.specs.Fields.{AreDistinct}
-use Rattle.core_types.specs.Keyspace.{IsFieldOfStrings, IsString}
-use Rattle.core_types.specs.declared.effect.Effect.{Effect}
+use Rattle.core_types.specs.Keyspace.{IsFieldOfStrings}
 use Rattle.core_types.specs.declared.field.Field.{Field}
-use Rattle.core_types.specs.declared.note.Note.{Note}
 use Rattle.core_types.specs.declared.note.NoteClass.TheVariants as class
-use Rattle.core_types.specs.declared.reply.Reply.{Reply}
-use Rattle.core_types.specs.declared.reply.Reply.TheVariants as reply
 use Rattle.hash_cmds.specs.declared.command.HashCmd.{HashCmd}
 use Rattle.hash_cmds.specs.Commands.{command_row}
 
@@ -19,43 +15,11 @@ use Rattle.hash_cmds.specs.Commands.{command_row}
 abbrev pub Acts : Type 0
 Acts = HashCmd → List (List ℕ) → Done (List Field)
 
-abbrev pub IsRefusal : Reply → Type 0
-IsRefusal said = (text : List ℕ) × (said ≡ reply.Error text)
-
--- the key stays as it is, and nobody is told of anything
-pub record ChangesNothing (done : Done (List Field)) : Type 0 where
-  pub change : done.change ≡ Change.Stays
-  pub effects : done.effects ≡ []
-  pub notes : done.notes ≡ []
-
--- the words are those of a command that makes this change of this key
-pub record Remakes (acts : Acts) (key : List ℕ) (change : Change (List Field))
-    (words : List (List ℕ)) : Type 0 where
-  pub cmd : HashCmd
-  pub named : word 0 words ≡ (command_row cmd).name
-  pub arity : MeetArity (command_row cmd) words
-  pub key_at : word (command_row cmd).key words ≡ key
-  pub again : (acts cmd words).change ≡ change
-  pub accepted : ¬ IsRefusal (acts cmd words).reply
-
--- the event of a key that goes
-abbrev pub gone_notes : Change (List Field) → List ℕ → List Note
-gone_notes Change.Goes key =
-    record { class = class.Generic; name = codes "del"; key = key } ∷ []
-gone_notes _ key = []
-
 -- a change of the key, with one effect that makes it again, one event of a hash that tells of it,
 -- and a second one where the key goes
-pub record ChangesOnce (acts : Acts) (key : List ℕ) (done : Done (List Field)) : Type 0 where
-  pub effect : Effect
-  pub note : Note
-  pub changed : done.change ≢ Change.Stays
-  pub accepted : ¬ IsRefusal done.reply
-  pub effects : done.effects ≡ effect ∷ []
-  pub notes : done.notes ≡ note ∷ gone_notes done.change key
-  pub remakes : Remakes acts key done.change effect.words
-  pub note_class : note.class ≡ class.Hash
-  pub note_key : note.key ≡ key
+abbrev pub ChangesOnce : Acts → List ℕ → Done (List Field) → Type 0
+ChangesOnce acts key done =
+    every.ChangesOnce command_row acts key class.Hash (removal_notes done.change key) done
 
 abbrev pub ChangesAtMostOnce : Acts → List ℕ → Done (List Field) → Type 0
 ChangesAtMostOnce acts key done = ChangesNothing done ⊎ ChangesOnce acts key done
@@ -66,17 +30,6 @@ IsKept None = ⊤
 IsKept (Some fields) =
     (0 < length fields) × AllByRecursion IsFieldOfStrings fields × AreDistinct fields
 
--- words that a request may have: at least one and at most 1,048,576, none longer than a string may
--- be
-pub record IsWithinLimits (words : List (List ℕ)) : Type 0 where
-  pub some : 0 < length words
-  pub few : length words ≤ 1048576
-  pub each : AllByRecursion IsString words
-
-abbrev pub IsSmallEffect : Effect → Type 0
-IsSmallEffect effect = IsWithinLimits effect.words
-
 -- the value, where the key had `old`, and each effect keep the limits
-pub record KeepsLimits (old : Option (List Field)) (done : Done (List Field)) : Type 0 where
-  pub value : IsKept (changed done.change old)
-  pub effects : AllByRecursion IsSmallEffect done.effects
+abbrev pub KeepsLimits : Option (List Field) → Done (List Field) → Type 0
+KeepsLimits old done = every.KeepsLimits IsKept old done

@@ -1,23 +1,15 @@
 -- The commands that answer what a hash holds, and change nothing.
-use Rattle.std.specs.Prelude.{ℕ, pos, Bool, if◌then◌else◌, List, [], ◌∷◌, length, map, drop, flat_map, Option, Some, None, is_some, unwrap_or}
+use Rattle.std.specs.Prelude.{ℕ, pos, Bool, if◌then◌else◌, List, [], ◌∷◌, length, map, drop, flat_map, is_some, unwrap_or}
+use Rattle.core_types.specs.Answers.{bulk_or_null, several}
 use Rattle.core_types.specs.Done.{Done, answers}
 use Rattle.sequences.specs.Words.{word}
 use Rattle.core_types.specs.Fields.{field_value}
-use Rattle.core_types.specs.Parts.{parts_of}
 use Rattle.core_types.specs.Several.{Several}
 use Rattle.core_types.specs.declared.field.Field.{Field}
 use Rattle.core_types.specs.declared.reply.Reply.{Reply}
 use Rattle.core_types.specs.declared.reply.Reply.TheVariants as reply
 use Rattle.hash_cmds.specs.declared.reading.Shown.{Shown}
 use Rattle.hash_cmds.specs.declared.reading.Shown.TheVariants as shown
-
--- replies in an array
-abbrev pub several : List Reply → Several
-several replies = record { count = length replies; parts = flat_map parts_of replies }
-
-abbrev pub bulk_or_null : Option (List ℕ) → Reply
-bulk_or_null None = reply.Null
-bulk_or_null (Some bytes) = reply.Bulk bytes
 
 abbrev pub one_if : Bool → ℕ
 one_if b = if b then 1 else 0

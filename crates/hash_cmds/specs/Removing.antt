@@ -1,16 +1,11 @@
 -- HDEL: it takes out fields.
-use Rattle.std.specs.Prelude.{ℕ, pos, ◌-◌, ◌==◌, if◌then◌else◌, List, [], ◌∷◌, length, drop, fold, codes}
-use Rattle.core_types.specs.Done.{Done, Change, answers, note_on_key, own_words}
-use Rattle.core_types.specs.Fields.{without_field}
+use Rattle.std.specs.Prelude.{ℕ, pos, ◌-◌, ◌==◌, if◌then◌else◌, List, [], ◌∷◌, length, drop, codes}
+use Rattle.core_types.specs.Done.{Done, Change, answers, del_note, own_words}
+use Rattle.core_types.specs.Fields.{without_fields}
 use Rattle.core_types.specs.declared.field.Field.{Field}
 use Rattle.core_types.specs.declared.note.Note.{Note}
-use Rattle.core_types.specs.declared.note.NoteClass.TheVariants as class
 use Rattle.core_types.specs.declared.reply.Reply.TheVariants as reply
 use Rattle.hash_cmds.specs.Words.{hash_note}
-
--- the fields without those of some names, the others in their order
-abbrev pub without_fields : List Field → List (List ℕ) → List Field
-without_fields held names = fold without_field held names
 
 -- no empty hash is kept
 abbrev pub left : List Field → Change (List Field)
@@ -20,7 +15,7 @@ left (field ∷ rest) = Change.Becomes (field ∷ rest)
 -- a key that is removed has an event of its own
 abbrev pub remove_notes : List Field → List (List ℕ) → List Note
 remove_notes [] words =
-    hash_note (codes "hdel") words ∷ note_on_key class.Generic (codes "del") words ∷ []
+    hash_note (codes "hdel") words ∷ del_note words ∷ []
 remove_notes (field ∷ rest) words = hash_note (codes "hdel") words ∷ []
 
 abbrev pub removes : ℕ → List Field → List (List ℕ) → Done (List Field)

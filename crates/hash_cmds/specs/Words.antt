@@ -1,8 +1,6 @@
 -- What the words of a command on a hash say, and what a key holds.
-use Rattle.std.specs.Prelude.{ℕ, ℤ, pos, ◌%◌, ◌==◌, if◌then◌else◌, List, [], ◌∷◌, length, Option, Some, None, unwrap_or}
-use Rattle.byte_text.specs.Number.{i64_of}
+use Rattle.std.specs.Prelude.{ℕ, ℤ, ◌%◌, ◌==◌, if◌then◌else◌, List, [], ◌∷◌, length, Option, Some, None, unwrap_or}
 use Rattle.core_types.specs.Done.{Done, answers, note_on_key}
-use Rattle.sequences.specs.Words.{word}
 use Rattle.core_types.specs.Refusals.{refused, wrong_arity}
 use Rattle.core_types.specs.declared.field.Field.{Field}
 use Rattle.core_types.specs.declared.note.Note.{Note}
@@ -13,10 +11,6 @@ use Rattle.core_types.specs.declared.reply.Reply.{Reply}
 -- the fields of a key; of one that is not there, none
 abbrev pub fields_held : Option (List Field) → List Field
 fields_held old = unwrap_or old []
-
--- the number that the word at a place writes; of a word that writes none, 0
-unfoldable pub number : ℕ → List (List ℕ) → ℤ
-number place words = unwrap_or (i64_of (word place words)) (pos 0)
 
 -- a name and its value, and so on; a last name without a value is none
 abbrev pub pairs : List (List ℕ) → List Field

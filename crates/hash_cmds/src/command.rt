@@ -2,7 +2,7 @@
 
 ghost use Rattle.std.specs.Prelude.{◌≡◌};
 ghost use Rattle.core_types.specs.CommandRow.{row_of_spec, takes};
-ghost use Rattle.hash_cmds.specs.Commands.{command_row, reading, writing};
+ghost use Rattle.hash_cmds.specs.Commands.{command_row};
 
 use core_types::CommandSpec;
 
@@ -60,19 +60,19 @@ impl HashCmd {
         ensures row { row_of_spec result ≡ command_row self }
     {
         match self {
-            HashCmd::HSet => writes(b"HSET", -4),
-            HashCmd::HMSet => writes(b"HMSET", -4),
-            HashCmd::HSetNx => writes(b"HSETNX", 4),
-            HashCmd::HGet => reads(b"HGET", 3),
-            HashCmd::HMGet => reads(b"HMGET", -3),
-            HashCmd::HDel => writes(b"HDEL", -3),
-            HashCmd::HLen => reads(b"HLEN", 2),
-            HashCmd::HExists => reads(b"HEXISTS", 3),
-            HashCmd::HStrLen => reads(b"HSTRLEN", 3),
-            HashCmd::HKeys => reads(b"HKEYS", 2),
-            HashCmd::HVals => reads(b"HVALS", 2),
-            HashCmd::HGetAll => reads(b"HGETALL", 2),
-            HashCmd::HIncrBy => writes(b"HINCRBY", 4),
+            HashCmd::HSet => CommandSpec::writing(b"HSET", -4),
+            HashCmd::HMSet => CommandSpec::writing(b"HMSET", -4),
+            HashCmd::HSetNx => CommandSpec::writing(b"HSETNX", 4),
+            HashCmd::HGet => CommandSpec::reading(b"HGET", 3),
+            HashCmd::HMGet => CommandSpec::reading(b"HMGET", -3),
+            HashCmd::HDel => CommandSpec::writing(b"HDEL", -3),
+            HashCmd::HLen => CommandSpec::reading(b"HLEN", 2),
+            HashCmd::HExists => CommandSpec::reading(b"HEXISTS", 3),
+            HashCmd::HStrLen => CommandSpec::reading(b"HSTRLEN", 3),
+            HashCmd::HKeys => CommandSpec::reading(b"HKEYS", 2),
+            HashCmd::HVals => CommandSpec::reading(b"HVALS", 2),
+            HashCmd::HGetAll => CommandSpec::reading(b"HGETALL", 2),
+            HashCmd::HIncrBy => CommandSpec::writing(b"HINCRBY", 4),
         }
     }
 
@@ -81,29 +81,5 @@ impl HashCmd {
         ensures takes { result ≡ takes (command_row self).arity count }
     {
         self.spec().takes(count)
-    }
-}
-
-// A command that changes no key.
-fn reads(name: &'static [u8], arity: i32) -> CommandSpec
-    ensures { row_of_spec result ≡ reading name.now arity }
-{
-    CommandSpec {
-        name,
-        arity,
-        writes: false,
-        key: 1,
-    }
-}
-
-// A command that can change its key.
-fn writes(name: &'static [u8], arity: i32) -> CommandSpec
-    ensures { row_of_spec result ≡ writing name.now arity }
-{
-    CommandSpec {
-        name,
-        arity,
-        writes: true,
-        key: 1,
     }
 }

@@ -3,11 +3,12 @@
 ghost use Rattle.std.specs.Prelude.{◌≡◌, ◌<◌, ◌∷◌, [], codes, length, Some, IfOk, OnErr};
 ghost use Rattle.core_types.specs.Done.{Does, own_words};
 ghost use Rattle.core_types.specs.Fields.{field_value};
-ghost use Rattle.hash_cmds.specs.Counting.{add, number_held};
+ghost use Rattle.byte_text.specs.Number.{number_held};
+ghost use Rattle.hash_cmds.specs.Counting.{add};
 ghost use Rattle.hash_cmds.specs.Words.{hash_note};
 
-use crate::words::{hash_note, number};
-use byte_text::{i64_text, read_i64};
+use crate::words::hash_note;
+use byte_text::{i64_text, number_in, read_i64};
 use core_types::{After, Args, Blob, Effect, HashBody, NoMemory, Outcome, Refusal, Reply};
 use std::alloc::Global;
 
@@ -25,7 +26,7 @@ pub(crate) fn add(
     let Some(held) = number_held(hash, words.word(2)) else {
         return Outcome::refuse(alloc, Refusal::HashNotAnInteger);
     };
-    let Some(sum) = held.checked_add(number(words, 3)) else {
+    let Some(sum) = held.checked_add(number_in(words.word(3))) else {
         return Outcome::refuse(alloc, Refusal::Overflow);
     };
     let outcome = added(alloc, sum, words)?;

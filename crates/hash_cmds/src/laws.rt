@@ -6,7 +6,10 @@ ghost use Rattle.sequences.specs.Words.{word};
 ghost use Rattle.core_types.specs.declared.field.Field.{Field};
 ghost use Rattle.hash_cmds.specs.declared.command.HashCmd.{HashCmd};
 ghost use Rattle.hash_cmds.specs.Commands.{command_row};
-ghost use Rattle.hash_cmds.specs.Laws.{ChangesAtMostOnce, ChangesNothing, IsKept, IsRefusal, IsWithinLimits, KeepsLimits};
+ghost use Rattle.core_types.specs.CommandLaws.{ChangesNothing};
+ghost use Rattle.core_types.specs.Refusals.{IsRefusal};
+ghost use Rattle.core_types.specs.Limits.{IsWithinLimits};
+ghost use Rattle.hash_cmds.specs.Laws.{ChangesAtMostOnce, IsKept, KeepsLimits};
 ghost use Rattle.hash_cmds.specs.Rows.{other_row, row};
 
 use crate::HashCmd;

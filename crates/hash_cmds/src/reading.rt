@@ -5,9 +5,10 @@ ghost use Rattle.core_types.specs.Done.{Does};
 ghost use Rattle.core_types.specs.Fields.{field_value};
 ghost use Rattle.core_types.specs.declared.field.Field.{Field};
 ghost use Rattle.core_types.specs.declared.reply.Reply.{Reply};
-ghost use Rattle.hash_cmds.specs.Reading.{bulk_or_null, count_fields, exists, field_shown, get, get_each, several, show_fields, shown_of, value_length, values_of};
+ghost use Rattle.core_types.specs.Answers.{bulk_or_null, several};
+ghost use Rattle.hash_cmds.specs.Reading.{count_fields, exists, field_shown, get, get_each, show_fields, shown_of, value_length, values_of};
 
-use core_types::{Args, Blob, HashBody, NoMemory, Outcome, Replies, Reply};
+use core_types::{Args, Blob, HashBody, NoMemory, Outcome, Replies, Reply, Words};
 use std::alloc::Global;
 
 /// What is shown of each field.
@@ -54,17 +55,17 @@ pub(crate) fn get_each(
     ensures { IfOk result
         (λ o. (old : Option (List Field)) → Does o old old (get_each hash.now words.now)) }
 {
-    let replies = values(alloc, hash, &words.as_slice()[2..])?;
+    let replies = values(alloc, hash, words.from_place(2))?;
     Ok(Outcome::answer(alloc, Reply::Array(replies)))
 }
 
 // The value of each name, or a null.
-fn values(alloc: Global, hash: &HashBody, names: &[Blob]) -> Result<Replies, NoMemory>
-    ensures { IfOk result (λ replies. replies ≡ values_of hash.now names.now) }
+fn values(alloc: Global, hash: &HashBody, names: Words<'_>) -> Result<Replies, NoMemory>
+    ensures { IfOk result (λ replies. replies ≡ values_of hash.now names.entry) }
 {
     let mut replies = Replies::new(alloc);
     for name in names {
-        replies.push(bulk_or_null(alloc, hash, name.as_slice())?)?;
+        replies.push(bulk_or_null(alloc, hash, name)?)?;
     }
     Ok(replies)
 }

@@ -1,14 +1,15 @@
 //! HDEL: it takes out fields.
 
-ghost use Rattle.std.specs.Prelude.{◌≡◌, ◌<◌, ◌≤◌, ◌+◌, ◌-◌, ◌^◌, ◌∷◌, [], pos, codes, length, Some, IfOk, OnErr};
-ghost use Rattle.core_types.specs.Done.{Does, note_on_key, own_words};
+ghost use Rattle.std.specs.Prelude.{◌≡◌, ◌<◌, ◌≤◌, ◌+◌, ◌-◌, ◌^◌, ◌∷◌, [], pos, codes, length, Some, IfOk, OnOk, OnErr};
+ghost use Rattle.core_types.specs.Done.{Does, del_note, own_words};
 ghost use Rattle.core_types.specs.declared.note.Note.{Note};
-ghost use Rattle.hash_cmds.specs.Removing.{remove_fields, without_fields};
+ghost use Rattle.core_types.specs.Fields.{without_fields};
+ghost use Rattle.hash_cmds.specs.Removing.{remove_fields};
 ghost use Rattle.hash_cmds.specs.Words.{hash_note};
 
 use crate::words::hash_note;
 use core_types::{
-    After, Args, Blob, Effect, Effects, HashBody, NoMemory, Note, NoteClass, Notes, Outcome, Reply,
+    After, Args, Effect, Effects, HashBody, NoMemory, Note, NoteClass, Notes, Outcome, Reply, Words,
 };
 use std::alloc::Global;
 
@@ -24,7 +25,7 @@ pub(crate) fn remove_fields(
     ensures err { OnErr result (hash.new ≡ hash.old) }
 {
     let (effects, notes) = told(alloc, words)?;
-    let count = take_out(hash, &words.as_slice()[2..]);
+    let count = take_out(alloc, hash, words.from_place(2))?;
     if count == 0 {
         return Ok(Outcome::answer(alloc, Reply::Int(0)));
     }
@@ -51,7 +52,7 @@ fn told(alloc: Global, words: &Args) -> Result<(Effects, Notes), NoMemory>
     requires { 1 < length words.now }
     ensures effects { IfOk result (λ both. both.0 ≡ own_words (codes "HDEL") words.now ∷ []) }
     ensures notes { IfOk result (λ both. both.1 ≡ hash_note (codes "hdel") words.now
-        ∷ note_on_key NoteClass.Generic (codes "del") words.now ∷ []) }
+        ∷ del_note words.now ∷ []) }
 {
     let mut effects = Effects::new(alloc);
     effects.push(Effect::own_words(alloc, b"HDEL", words)?)?;
@@ -71,14 +72,12 @@ fn without_last(notes: Notes) -> Notes
 }
 
 // Takes out the fields of these names: how many there were.
-fn take_out(hash: &mut HashBody, names: &[Blob]) -> i64
-    ensures left { hash.new ≡ without_fields hash.old names.now }
-    ensures count { result ≡ pos (length hash.old - length hash.new) }
+fn take_out(alloc: Global, hash: &mut HashBody, names: Words<'_>) -> Result<i64, NoMemory>
+    ensures left { OnOk result (hash.new ≡ without_fields hash.old names.entry) }
+    ensures count { IfOk result (λ n. n ≡ pos (length hash.old - length hash.new)) }
+    ensures err { OnErr result (hash.new ≡ hash.old) }
 {
     let before = hash.len();
-    prove!(names.len() < 1 << 62);
-    for name in names {
-        hash.remove(name.as_slice());
-    }
-    (before - hash.len()) as i64
+    hash.remove_all(alloc, names)?;
+    Ok((before - hash.len()) as i64)
 }

@@ -1,9 +1,9 @@
 //! Runs a command on one key.
 
-ghost use Rattle.std.specs.Prelude.{◌≡◌, ◌≢◌, [], Some, None, IfOk, OnErr};
+ghost use Rattle.std.specs.Prelude.{◌≡◌, ◌≢◌, List, ℕ, [], Some, None, IfOk, IfSome, OnErr};
 ghost use Rattle.std.specs.Option.{option_copied_mut};
 ghost use Rattle.core_types.specs.CommandRow.{MeetArity};
-ghost use Rattle.core_types.specs.Done.{Does, option_left};
+ghost use Rattle.core_types.specs.Done.{Does, answers, option_left};
 ghost use Rattle.hash_cmds.specs.Commands.{command_row};
 ghost use Rattle.hash_cmds.specs.Rows.{other_row, row, served};
 
@@ -13,7 +13,7 @@ use crate::reading::{Shown, count_fields, exists, get, get_each, show_fields, va
 use crate::refusing::refusal;
 use crate::removing::remove_fields;
 use crate::setting::{set_all, set_fields, set_if_absent};
-use core_types::{After, Args, HashBody, NoMemory, Outcome, Refusal};
+use core_types::{After, Args, HashBody, NoMemory, Outcome, Refusal, Replies, Reply};
 use std::alloc::Global;
 use std::hash::RandomState;
 
@@ -72,7 +72,6 @@ fn run_on(
     }
 }
 
-// The command runs on a hash without fields, which becomes the key's where it was changed.
 fn run_absent(
     alloc: Global,
     keys: RandomState,
@@ -82,7 +81,38 @@ fn run_absent(
     requires { MeetArity (command_row cmd) words.now }
     ensures does { IfOk result (λ o. Does o None None (row cmd None words.now)) }
 {
-    let mut fresh = HashBody::new(alloc, keys);
+    match empty_answer(alloc, cmd) {
+        Some(reply) => Ok(Outcome::answer(alloc, reply)),
+        None => run_fresh(alloc, keys, cmd, words),
+    }
+}
+
+// What a command that reads a key answers of one that is not there, where that takes no memory.
+fn empty_answer(alloc: Global, cmd: HashCmd) -> Option<Reply>
+    ensures { IfSome result
+        (λ said. (words : List (List ℕ)) → row cmd None words ≡ answers said) }
+{
+    match cmd {
+        HashCmd::HGet => Some(Reply::Null),
+        HashCmd::HLen | HashCmd::HExists | HashCmd::HStrLen => Some(Reply::Int(0)),
+        HashCmd::HKeys | HashCmd::HVals | HashCmd::HGetAll => {
+            Some(Reply::Array(Replies::new(alloc)))
+        }
+        _ => None,
+    }
+}
+
+// The command runs on a hash without fields, which becomes the key's where it was changed.
+fn run_fresh(
+    alloc: Global,
+    keys: RandomState,
+    cmd: HashCmd,
+    words: &Args,
+) -> Result<Outcome<HashBody>, NoMemory>
+    requires { MeetArity (command_row cmd) words.now }
+    ensures does { IfOk result (λ o. Does o None None (row cmd None words.now)) }
+{
+    let mut fresh = HashBody::new(alloc, keys)?;
     let outcome = run_on(alloc, cmd, &mut fresh, words)?;
     Ok(put_where_changed(outcome, fresh))
 }

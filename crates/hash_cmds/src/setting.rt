@@ -76,10 +76,9 @@ fn sets(
     }) }
     ensures fields { OnOk result (hash.new ≡ with_pairs hash.old words.now) }
     ensures more { OnOk result (length hash.old ≤ length hash.new) }
-    ensures few { OnOk result (length hash.new < length hash.old + 2 ^ 63) }
     ensures err { OnErr result (hash.new ≡ hash.old) }
 {
-    let fields = pairs(alloc, &words.as_slice()[2..])?;
+    let fields = pairs(alloc, words.from_place(2))?;
     let effect = Effect::own_words(alloc, b"HSET", words)?;
     let note = hash_note(alloc, b"hset", words)?;
     let outcome = Outcome::change(alloc, After::Keep, reply, effect, note)?;

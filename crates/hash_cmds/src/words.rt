@@ -1,37 +1,34 @@
 //! What the words of a command say.
 
-ghost use Rattle.std.specs.Prelude.{◌≡◌, ◌<◌, ◌^◌, length, IfOk};
-ghost use Rattle.hash_cmds.specs.Words.{hash_note, number, pairs};
+ghost use Rattle.std.specs.Prelude.{◌≡◌, ◌<◌, ◌∷◌, [], length, IfOk, IfSome, IfNone};
+ghost use Rattle.hash_cmds.specs.Words.{hash_note, pairs};
 
-use byte_text::read_i64;
-use core_types::{Args, Blob, Field, Fields, NoMemory, Note, NoteClass};
+use core_types::{Args, Blob, Field, Fields, NoMemory, Note, NoteClass, Words};
 use std::alloc::Global;
 
-/// The number that the word at a place writes, or 0 where it writes none.
-#[tactic(auto, unfolding(crate::specs::Words::number))]
-pub(crate) fn number(words: &Args, place: usize) -> i64
-    requires { place < length words.now }
-    ensures { result ≡ number place words.now }
+/// A name and its value, and so on, as fields.
+pub(crate) fn pairs(alloc: Global, words: Words<'_>) -> Result<Fields, NoMemory>
+    ensures { IfOk result (λ fields. fields ≡ pairs words.entry) }
 {
-    read_i64(words.word(place)).unwrap_or(0)
+    let mut fields = Vec::with_capacity(alloc, words.len() / 2)?;
+    let mut rest = words;
+    while let Some((name, value)) = next_pair(&mut rest) {
+        fields.push(Field {
+            name: Blob::from_slice(alloc, name)?,
+            value: Blob::from_slice(alloc, value)?,
+        })?;
+    }
+    Ok(Fields::from_vec(fields))
 }
 
-/// A name and its value, and so on, as fields.
-pub(crate) fn pairs(alloc: Global, words: &[Blob]) -> Result<Fields, NoMemory>
-    ensures pairs { IfOk result (λ fields. fields ≡ pairs words.now) }
-    ensures short { IfOk result (λ fields. length fields < 2 ^ 63) }
+// The next two words, where there are two.
+fn next_pair<'a>(rest: &mut Words<'a>) -> Option<(&'a [u8], &'a [u8])>
+    ensures some { IfSome result (λ pair. rest.old ≡ pair.0.now ∷ pair.1.now ∷ rest.new) }
+    ensures none { IfNone result (pairs rest.old ≡ []) }
 {
-    prove!(words.len() < 1 << 62);
-    let mut fields = Fields::new(alloc);
-    let mut rest = words;
-    while let [name, value, more @ ..] = rest {
-        fields.push(Field {
-            name: name.copy(alloc)?,
-            value: value.copy(alloc)?,
-        })?;
-        rest = more;
-    }
-    Ok(fields)
+    let name = rest.next()?;
+    let value = rest.next()?;
+    Some((name, value))
 }
 
 /// An event of a hash, on the key of these words.

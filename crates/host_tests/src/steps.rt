@@ -9,7 +9,7 @@ use std::test::Fail;
 fn words_of(alloc: Global, line: &[u8]) -> Result<Args, NoMemory> {
     let mut words = Args::new(alloc);
     for word in line.split(|byte| *byte == b' ') {
-        words.push(Blob::from_slice(alloc, word)?)?;
+        words.push(word)?;
     }
     Ok(words)
 }
@@ -93,8 +93,8 @@ fn letter(answer: &Answer) -> u8 {
 // The words of changes, each change ended by `;`.
 fn show(text: &mut Blob, effects: &Effects) -> Result<(), NoMemory> {
     for effect in effects.as_slice() {
-        for word in effect.words.as_slice() {
-            text.push_slice(word.as_slice())?;
+        for word in effect.words.from_place(0) {
+            text.push_slice(word)?;
             text.push(b' ')?;
         }
         text.push(b';')?;

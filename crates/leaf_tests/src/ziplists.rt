@@ -6,8 +6,8 @@ use zip_lists::{ZipStop, items};
 // Items, each with a comma behind it.
 fn listed(alloc: Global, items: &Args) -> Result<Vec<u8>, Fail> {
     let mut text = Vec::new(alloc);
-    for item in items.as_slice() {
-        text.extend_from_slice(item.as_slice())?;
+    for item in items.from_place(0) {
+        text.extend_from_slice(item)?;
         text.push(b',')?;
     }
     Ok(text)

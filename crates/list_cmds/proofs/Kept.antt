@@ -6,6 +6,7 @@ use Rattle.std.specs.Str.{bytes_eq}
 use Rattle.std.proofs.lemmas.Bool.Decides.{nat_tests}
 use Rattle.std.proofs.lemmas.Grind.{reverse_onto}
 use Rattle.std.proofs.lemmas.List.{length-reverse}
+use Rattle.byte_text.specs.Number.{number_in}
 use Rattle.core_types.specs.CommandRow.{MeetArity}
 use Rattle.core_types.specs.Done.{Change, Done, answers, changes, own_words, unless_refused}
 use Rattle.sequences.specs.Words.{word}
@@ -16,11 +17,12 @@ use Rattle.core_types.specs.declared.reply.Reply.{Reply}
 use Rattle.list_cmds.specs.declared.command.ListCmd.{ListCmd}
 use Rattle.list_cmds.specs.declared.command.ListCmd.TheVariants as command
 use Rattle.list_cmds.specs.Commands.{command_row}
-use Rattle.list_cmds.specs.Words.{held_items, list_note, number}
+use Rattle.list_cmds.specs.Words.{held_items, list_note}
 use Rattle.list_cmds.specs.Adding.{push_back, push_front, set_at, set_item}
 use Rattle.list_cmds.specs.Taking.{leaves, remove, trim, without}
 use Rattle.list_cmds.specs.Rows.{refusal, row, served}
-use Rattle.list_cmds.specs.Laws.{IsKept, IsWithinLimits, KeepsLimits}
+use Rattle.core_types.specs.Limits.{IsWithinLimits}
+use Rattle.list_cmds.specs.Laws.{IsKept, KeepsLimits}
 
 abbrev Short : List (List ℕ) → Type 0
 Short items = AllByRecursion IsString items
@@ -139,7 +141,7 @@ trim_keeps (Some items) words h k =
 remove_keeps : (old : Option (List (List ℕ))) (words : List (List ℕ)) → IsKept old → IsWithinLimits words → KeepsLimits old (remove (held_items old) words)
 remove_keeps old words h k =
     if_keeps old _ _ _ (stays old _ h)
-    (leaves_by old (without (number 2 words) (word 3 words) (held_items old)) _ (codes "LREM") (codes "lrem") words _ refl (short_without (number 2 words) (word 3 words) (held_items old) (held_short old h)) (omega arith) k)
+    (leaves_by old (without (number_in (word 2 words)) (word 3 words) (held_items old)) _ (codes "LREM") (codes "lrem") words _ refl (short_without (number_in (word 2 words)) (word 3 words) (held_items old) (held_short old h)) (omega arith) k)
 
 pub row_keeps : (cmd : ListCmd) (old : Option (List (List ℕ))) (words : List (List ℕ)) → MeetArity (command_row cmd) words → IsKept old → IsWithinLimits words → KeepsLimits old (row cmd old words)
 row_keeps command.LPush old words arity h k = front_keeps old words arity h k

@@ -2,12 +2,12 @@
 use Rattle.std.proofs.Common.{◌≡◌, ◌-◌, if◌then◌else◌, ℕ, Bool, true, false, List, [], ◌∷◌, length, codes, Option, Some, refl, ap, arith}
 use Rattle.std.specs.Prelude.{◌==◌}
 use Rattle.std.proofs.lemmas.Bool.Decides.{nat_tests}
-use Rattle.core_types.specs.Done.{Does, own_words}
+use Rattle.core_types.specs.Done.{Does, own_words, del_note}
 use Rattle.core_types.specs.declared.outcome.After.TheVariants as after
 use Rattle.core_types.specs.declared.outcome.Outcome.{Outcome}
 use Rattle.core_types.specs.declared.reply.Reply.{Reply}
 use Rattle.list_cmds.specs.Taking.{leaves, leaves_of}
-use Rattle.list_cmds.specs.Words.{counted, del_note, list_note}
+use Rattle.list_cmds.specs.Words.{counted, list_note}
 
 -- the outcome of items that are taken out, of all of them or not
 abbrev pub taken_outcome : Bool → Reply → List ℕ → List ℕ → List (List ℕ) → Outcome (List (List ℕ))

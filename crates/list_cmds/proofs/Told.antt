@@ -2,6 +2,7 @@
 -- refusals_change_nothing.
 use Rattle.std.proofs.Common.{◌≡◌, inl, inr, ◌-◌, if◌then◌else◌, ℕ, Bool, true, false, List, [], ◌∷◌, length, codes, Option, Some, None, refl, sym, ap, ◌∙◌}
 use Rattle.std.specs.Prelude.{◌==◌}
+use Rattle.byte_text.specs.Number.{number_in}
 use Rattle.core_types.specs.CommandRow.{MeetArity}
 use Rattle.core_types.specs.Done.{Change, Done, answers, changes, own_words, refuses, unless_refused}
 use Rattle.sequences.specs.Words.{word}
@@ -11,11 +12,13 @@ use Rattle.core_types.specs.declared.reply.Reply.{Reply}
 use Rattle.list_cmds.specs.declared.command.ListCmd.{ListCmd}
 use Rattle.list_cmds.specs.declared.command.ListCmd.TheVariants as command
 use Rattle.list_cmds.specs.Commands.{command_row}
-use Rattle.list_cmds.specs.Words.{counted, held_items, list_note, number, place_of}
+use Rattle.list_cmds.specs.Words.{counted, held_items, list_note, place_of}
 use Rattle.list_cmds.specs.Adding.{set_at, set_item}
 use Rattle.list_cmds.specs.Taking.{leaves, remove, removes, trim, without}
 use Rattle.list_cmds.specs.Rows.{other_row, refusal, row, served}
-use Rattle.list_cmds.specs.Laws.{Acts, ChangesAtMostOnce, ChangesNothing, ChangesOnce, IsRefusal, Remakes}
+use Rattle.core_types.specs.CommandLaws.{ChangesNothing, Remakes}
+use Rattle.core_types.specs.Refusals.{IsRefusal}
+use Rattle.list_cmds.specs.Laws.{Acts, ChangesAtMostOnce, ChangesOnce}
 
 -- on a key that holds a list or is not there
 abbrev pub on_list : Option (List (List ℕ)) → Acts
@@ -29,7 +32,7 @@ unless acts key None done h = h refl
 unless acts key (Some why) done h = inl record { change = refl; effects = refl; notes = refl }
 
 -- own words are again own words
-remakes : (acts : Acts) (cmd : ListCmd) (first : List ℕ) (rest : List (List ℕ)) (done : Done (List (List ℕ))) → (command_row cmd).key ≡ 1 → MeetArity (command_row cmd) (first ∷ rest) → acts cmd ((command_row cmd).name ∷ rest) ≡ done → ¬ IsRefusal done.reply → Remakes acts (word 1 (first ∷ rest)) done.change ((command_row cmd).name ∷ rest)
+remakes : (acts : Acts) (cmd : ListCmd) (first : List ℕ) (rest : List (List ℕ)) (done : Done (List (List ℕ))) → (command_row cmd).key ≡ 1 → MeetArity (command_row cmd) (first ∷ rest) → acts cmd ((command_row cmd).name ∷ rest) ≡ done → ¬ IsRefusal done.reply → Remakes command_row acts (word 1 (first ∷ rest)) done.change ((command_row cmd).name ∷ rest)
 unfolding word
 remakes acts cmd first rest done key arity again good =
     record {
@@ -92,8 +95,8 @@ back_told old first rest arity =
     if_told (on_list old) _ (length (held_items old) == 0) _ _
     (λ some. leaves_by (on_list old) command.RPop first rest _ _ (codes "rpop") _ refl refl arity (λ (text, e). cc) (rw some refl))
 
-set_at_told : (items : List (List ℕ)) (first : List ℕ) (rest : List (List ℕ)) (place : Option ℕ) → place_of (length items) (number 2 (first ∷ rest)) ≡ place → MeetArity (command_row command.LSet) (first ∷ rest) → refusal command.LSet (first ∷ rest) ≡ None → ChangesAtMostOnce (on_list (Some items)) (word 1 (first ∷ rest)) (set_at items place (first ∷ rest))
-unfolding word number
+set_at_told : (items : List (List ℕ)) (first : List ℕ) (rest : List (List ℕ)) (place : Option ℕ) → place_of (length items) (number_in (word 2 (first ∷ rest))) ≡ place → MeetArity (command_row command.LSet) (first ∷ rest) → refusal command.LSet (first ∷ rest) ≡ None → ChangesAtMostOnce (on_list (Some items)) (word 1 (first ∷ rest)) (set_at items place (first ∷ rest))
+unfolding word number_in
 set_at_told items first rest None e arity good = answered _ _ _
 set_at_told items first rest (Some place) e arity good =
     inr (changes_told (on_list (Some items)) command.LSet first rest _ _ (codes "lset") refl arity (λ (text, f). cc) (rw (good, e) refl))
@@ -103,16 +106,16 @@ set_told None first rest arity good = answered _ _ _
 set_told (Some items) first rest arity good = set_at_told items first rest _ refl arity good
 
 trim_told : (old : Option (List (List ℕ))) (first : List ℕ) (rest : List (List ℕ)) → MeetArity (command_row command.LTrim) (first ∷ rest) → refusal command.LTrim (first ∷ rest) ≡ None → ChangesAtMostOnce (on_list old) (word 1 (first ∷ rest)) (trim old (first ∷ rest))
-unfolding word number
+unfolding word number_in
 trim_told None first rest arity good = answered _ _ _
 trim_told (Some items) first rest arity good =
     inr (leaves_by (on_list (Some items)) command.LTrim first rest _ _ (codes "ltrim") _ refl refl arity (λ (text, f). cc) (rw good refl))
 
 remove_told : (old : Option (List (List ℕ))) (first : List ℕ) (rest : List (List ℕ)) → MeetArity (command_row command.LRem) (first ∷ rest) → refusal command.LRem (first ∷ rest) ≡ None → ChangesAtMostOnce (on_list old) (word 1 (first ∷ rest)) (remove (held_items old) (first ∷ rest))
-unfolding word number
+unfolding word number_in
 remove_told old first rest arity good =
     let items = held_items old in
-    let left = without (number 2 (first ∷ rest)) (word 3 (first ∷ rest)) items in
+    let left = without (number_in (word 2 (first ∷ rest))) (word 3 (first ∷ rest)) items in
     let said = counted (length items - length left) in
     if_told (on_list old) _ (length items == length left) (counted 0) (leaves left said (codes "LREM") (codes "lrem") (first ∷ rest))
     (λ some. leaves_by (on_list old) command.LRem first rest left said (codes "lrem") (length left == 0) refl refl arity (λ (text, f). cc) (rw (good, some) refl))
@@ -151,7 +154,7 @@ pub row_told : (cmd : ListCmd) (old : Option (List (List ℕ))) (words : List (L
 row_told cmd old [] h = absurd (no_words cmd h)
 row_told cmd old (first ∷ rest) h = first_told cmd old first rest h
 
-refused_by : (refused : Option Refusal) → IsRefusal (unless_refused {B = List (List ℕ)} refused (refuses refusals.WrongType)).reply × ChangesNothing (unless_refused refused (refuses refusals.WrongType))
+refused_by : (refused : Option Refusal) → IsRefusal (unless_refused {B = List (List ℕ)} refused (refuses refusals.WrongType)).reply × ChangesNothing (unless_refused {B = List (List ℕ)} refused (refuses refusals.WrongType))
 refused_by None = ((_, refl), record { change = refl; effects = refl; notes = refl })
 refused_by (Some why) = ((_, refl), record { change = refl; effects = refl; notes = refl })
 

@@ -1,10 +1,11 @@
 -- LPUSH, RPUSH and LSET: they put items into a list.
 use Rattle.std.specs.Prelude.{ℕ, ◌++◌, List, length, drop, reverse, slice_set, codes, Option, Some, None}
+use Rattle.byte_text.specs.Number.{number_in}
 use Rattle.core_types.specs.Done.{Done, Change, changes, own_words, refuses}
 use Rattle.sequences.specs.Words.{word}
 use Rattle.core_types.specs.declared.refusal.Refusal.TheVariants as refusal
 use Rattle.core_types.specs.declared.reply.Reply.TheVariants as reply
-use Rattle.list_cmds.specs.Words.{counted, list_note, number, place_of}
+use Rattle.list_cmds.specs.Words.{counted, list_note, place_of}
 
 -- the key holds these items from now on, and their number is answered
 abbrev pub pushes : List (List ℕ) → List ℕ → List ℕ → List (List ℕ) → Done (List (List ℕ))
@@ -29,4 +30,4 @@ set_at items (Some place) words =
 
 abbrev pub set_item : Option (List (List ℕ)) → List (List ℕ) → Done (List (List ℕ))
 set_item None words = refuses refusal.NoSuchKey
-set_item (Some items) words = set_at items (place_of (length items) (number 2 words)) words
+set_item (Some items) words = set_at items (place_of (length items) (number_in (word 2 words))) words

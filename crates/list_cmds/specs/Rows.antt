@@ -7,7 +7,8 @@ use Rattle.core_types.specs.declared.refusal.Refusal.{Refusal}
 use Rattle.core_types.specs.declared.refusal.Refusal.TheVariants as refusals
 use Rattle.list_cmds.specs.declared.command.ListCmd.{ListCmd}
 use Rattle.list_cmds.specs.declared.command.ListCmd.TheVariants as command
-use Rattle.list_cmds.specs.Words.{held_items, no_number, or_else}
+use Rattle.core_types.specs.Refusals.{no_number, or_else}
+use Rattle.list_cmds.specs.Words.{held_items}
 use Rattle.list_cmds.specs.Reading.{index, list_length, range}
 use Rattle.list_cmds.specs.Adding.{push_back, push_front, set_item}
 use Rattle.list_cmds.specs.Taking.{pop_back, pop_front, remove, trim}

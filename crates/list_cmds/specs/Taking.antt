@@ -1,12 +1,13 @@
 -- LPOP, RPOP, LTRIM and LREM: they take items out of a list, and a list without items goes.
 use Rattle.std.specs.Prelude.{ℕ, zero, suc, ℤ, pos, negsuc, ◌+◌, ◌-◌, ◌==◌, if◌then◌else◌, List, [], ◌∷◌, length, drop, take, slice_index_or, codes, Option, Some, None}
+use Rattle.byte_text.specs.Number.{number_in}
 use Rattle.core_types.specs.Cutting.{taken_range}
-use Rattle.core_types.specs.Done.{Done, Change, answers, changes, own_words}
+use Rattle.core_types.specs.Done.{Done, Change, answers, changes, own_words, del_note}
 use Rattle.sequences.specs.Words.{word}
 use Rattle.core_types.specs.Equal.{without_first, without_last}
 use Rattle.core_types.specs.declared.reply.Reply.{Reply}
 use Rattle.core_types.specs.declared.reply.Reply.TheVariants as reply
-use Rattle.list_cmds.specs.Words.{counted, del_note, list_note, number}
+use Rattle.list_cmds.specs.Words.{counted, list_note}
 
 -- the key is removed, and a second event tells of it
 abbrev pub removes : Reply → List ℕ → List ℕ → List (List ℕ) → Done (List (List ℕ))
@@ -43,7 +44,7 @@ pop_back items words =
 abbrev pub trim : Option (List (List ℕ)) → List (List ℕ) → Done (List (List ℕ))
 trim None words = answers (reply.Simple (codes "OK"))
 trim (Some items) words =
-    leaves (taken_range items (number 2 words) (number 3 words)) (reply.Simple (codes "OK"))
+    leaves (taken_range items (number_in (word 2 words)) (number_in (word 3 words))) (reply.Simple (codes "OK"))
     (codes "LTRIM") (codes "ltrim") words
 
 -- a list without items that are equal to this one: for a number above 0 the first of them, as many
@@ -60,4 +61,4 @@ leaves_of items left words =
     else leaves left (counted (length items - length left)) (codes "LREM") (codes "lrem") words
 
 abbrev pub remove : List (List ℕ) → List (List ℕ) → Done (List (List ℕ))
-remove items words = leaves_of items (without (number 2 words) (word 3 words) items) words
+remove items words = leaves_of items (without (number_in (word 2 words)) (word 3 words) items) words

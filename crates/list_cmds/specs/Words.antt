@@ -1,32 +1,14 @@
 -- What the words of a command on a list say, and what a key holds.
-use Rattle.std.specs.Prelude.{ℕ, ℤ, pos, negsuc, ◌+◌, ◌-◌, nat_lt, min, if◌then◌else◌, List, [], codes, Option, Some, None, unwrap_or}
+use Rattle.std.specs.Prelude.{ℕ, ℤ, pos, negsuc, ◌+◌, ◌-◌, nat_lt, min, if◌then◌else◌, List, [], Option, Some, None, unwrap_or}
 use Rattle.core_types.specs.Done.{note_on_key}
-use Rattle.sequences.specs.Words.{word}
 use Rattle.core_types.specs.declared.note.Note.{Note}
 use Rattle.core_types.specs.declared.note.NoteClass.TheVariants as class
-use Rattle.core_types.specs.declared.refusal.Refusal.{Refusal}
-use Rattle.core_types.specs.declared.refusal.Refusal.TheVariants as refusal
 use Rattle.core_types.specs.declared.reply.Reply.{Reply}
 use Rattle.core_types.specs.declared.reply.Reply.TheVariants as reply
-use Rattle.byte_text.specs.Number.{i64_of}
 
 -- the items of a key; of one that is not there, none
 abbrev pub held_items : Option (List (List ℕ)) → List (List ℕ)
 held_items old = unwrap_or old []
-
--- the number that the word at a place writes; of a word that writes none, 0
-unfoldable pub number : ℕ → List (List ℕ) → ℤ
-number place words = unwrap_or (i64_of (word place words)) (pos 0)
-
--- a word is refused that writes no number
-abbrev pub no_number : Option ℤ → Option Refusal
-no_number None = Some refusal.NotAnInteger
-no_number (Some n) = None
-
--- the first refusal, or where there is none the second
-abbrev pub or_else : Option Refusal → Option Refusal → Option Refusal
-or_else None second = second
-or_else (Some first) second = Some first
 
 -- which of this many items a number names: one below 0 counts from the end
 abbrev pub place_of : ℕ → ℤ → Option ℕ
@@ -40,7 +22,3 @@ counted count = reply.Int (pos (min count 9223372036854775807))
 -- the event of this name on the key of the words
 abbrev pub list_note : List ℕ → List (List ℕ) → Note
 list_note name words = note_on_key class.List name words
-
--- the key is removed
-abbrev pub del_note : List (List ℕ) → Note
-del_note words = note_on_key class.Generic (codes "del") words

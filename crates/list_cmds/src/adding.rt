@@ -5,7 +5,8 @@ ghost use Rattle.core_types.specs.Done.{Does, own_words};
 ghost use Rattle.list_cmds.specs.Adding.{push_back, push_front, set_item};
 ghost use Rattle.list_cmds.specs.Words.{counted, list_note};
 
-use crate::words::{counted, items_of, list_note, number, place_of};
+use crate::words::{counted, items_of, list_note, place_of};
+use byte_text::number_in;
 use core_types::{After, Args, Blob, Effect, ListBody, NoMemory, Outcome, Refusal, Reply};
 use std::alloc::Global;
 
@@ -32,7 +33,7 @@ pub(crate) fn push_front_new(alloc: Global, words: &Args) -> Result<Outcome<List
     requires { 3 ≤ length words.now }
     ensures { IfOk result (λ o. Does o None None (push_front [] words.now)) }
 {
-    let mut list = ListBody::new(alloc);
+    let mut list = ListBody::new(alloc)?;
     list.extend_front(items_of(alloc, words)?)?;
     let size = counted(list.len());
     added(alloc, After::Put(list), size, b"LPUSH", b"lpush", words)
@@ -61,7 +62,7 @@ pub(crate) fn push_back_new(alloc: Global, words: &Args) -> Result<Outcome<ListB
     requires { 3 ≤ length words.now }
     ensures { IfOk result (λ o. Does o None None (push_back [] words.now)) }
 {
-    let mut list = ListBody::new(alloc);
+    let mut list = ListBody::new(alloc)?;
     list.extend_back(items_of(alloc, words)?)?;
     let size = counted(list.len());
     added(alloc, After::Put(list), size, b"RPUSH", b"rpush", words)
@@ -78,7 +79,7 @@ pub(crate) fn set_item(
         (λ o. Does o (Some old.old) (Some old.new) (set_item (Some old.old) words.now)) }
     ensures err { OnErr result (old.new ≡ old.old) }
 {
-    let Some(place) = place_of(old.len(), number(words, 2)) else {
+    let Some(place) = place_of(old.len(), number_in(words.word(2))) else {
         return Outcome::refuse(alloc, Refusal::IndexOutOfRange);
     };
     let item = Blob::from_slice(alloc, words.word(3))?;

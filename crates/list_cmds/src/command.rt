@@ -2,7 +2,7 @@
 
 ghost use Rattle.std.specs.Prelude.{◌≡◌};
 ghost use Rattle.core_types.specs.CommandRow.{row_of_spec, takes};
-ghost use Rattle.list_cmds.specs.Commands.{command_row, reading, writing};
+ghost use Rattle.list_cmds.specs.Commands.{command_row};
 
 use core_types::CommandSpec;
 
@@ -51,16 +51,16 @@ impl ListCmd {
         ensures row { row_of_spec result ≡ command_row self }
     {
         match self {
-            ListCmd::LPush => writes(b"LPUSH", -3),
-            ListCmd::RPush => writes(b"RPUSH", -3),
-            ListCmd::LPop => writes(b"LPOP", 2),
-            ListCmd::RPop => writes(b"RPOP", 2),
-            ListCmd::LLen => reads(b"LLEN", 2),
-            ListCmd::LIndex => reads(b"LINDEX", 3),
-            ListCmd::LRange => reads(b"LRANGE", 4),
-            ListCmd::LSet => writes(b"LSET", 4),
-            ListCmd::LTrim => writes(b"LTRIM", 4),
-            ListCmd::LRem => writes(b"LREM", 4),
+            ListCmd::LPush => CommandSpec::writing(b"LPUSH", -3),
+            ListCmd::RPush => CommandSpec::writing(b"RPUSH", -3),
+            ListCmd::LPop => CommandSpec::writing(b"LPOP", 2),
+            ListCmd::RPop => CommandSpec::writing(b"RPOP", 2),
+            ListCmd::LLen => CommandSpec::reading(b"LLEN", 2),
+            ListCmd::LIndex => CommandSpec::reading(b"LINDEX", 3),
+            ListCmd::LRange => CommandSpec::reading(b"LRANGE", 4),
+            ListCmd::LSet => CommandSpec::writing(b"LSET", 4),
+            ListCmd::LTrim => CommandSpec::writing(b"LTRIM", 4),
+            ListCmd::LRem => CommandSpec::writing(b"LREM", 4),
         }
     }
 
@@ -69,29 +69,5 @@ impl ListCmd {
         ensures takes { result ≡ takes (command_row self).arity count }
     {
         self.spec().takes(count)
-    }
-}
-
-// A command that changes no key.
-fn reads(name: &'static [u8], arity: i32) -> CommandSpec
-    ensures { row_of_spec result ≡ reading name.now arity }
-{
-    CommandSpec {
-        name,
-        arity,
-        writes: false,
-        key: 1,
-    }
-}
-
-// A command that can change its key.
-fn writes(name: &'static [u8], arity: i32) -> CommandSpec
-    ensures { row_of_spec result ≡ writing name.now arity }
-{
-    CommandSpec {
-        name,
-        arity,
-        writes: true,
-        key: 1,
     }
 }

@@ -5,7 +5,10 @@ ghost use Rattle.core_types.specs.CommandRow.{MeetArity};
 ghost use Rattle.sequences.specs.Words.{word};
 ghost use Rattle.list_cmds.specs.declared.command.ListCmd.{ListCmd};
 ghost use Rattle.list_cmds.specs.Commands.{command_row};
-ghost use Rattle.list_cmds.specs.Laws.{ChangesAtMostOnce, ChangesNothing, IsKept, IsRefusal, IsWithinLimits, KeepsLimits};
+ghost use Rattle.core_types.specs.CommandLaws.{ChangesNothing};
+ghost use Rattle.core_types.specs.Refusals.{IsRefusal};
+ghost use Rattle.core_types.specs.Limits.{IsWithinLimits};
+ghost use Rattle.list_cmds.specs.Laws.{ChangesAtMostOnce, IsKept, KeepsLimits};
 ghost use Rattle.list_cmds.specs.Rows.{other_row, row};
 
 use crate::ListCmd;

@@ -4,7 +4,8 @@ ghost use Rattle.std.specs.Prelude.{◌≡◌, ◌-◌, ◌≤◌, List, ℕ, Op
 ghost use Rattle.core_types.specs.Done.{Does};
 ghost use Rattle.list_cmds.specs.Reading.{bulks, index, range};
 
-use crate::words::{number, place_of};
+use crate::words::place_of;
+use byte_text::number_in;
 use core_types::{Args, ListBody, NoMemory, Outcome, Replies, Reply, cut_range};
 use std::alloc::Global;
 
@@ -18,7 +19,7 @@ pub(crate) fn index(
     ensures { IfOk result
         (λ o. (old : Option (List (List ℕ))) → Does o old old (index held.now words.now)) }
 {
-    let Some(place) = place_of(held.len(), number(words, 2)) else {
+    let Some(place) = place_of(held.len(), number_in(words.word(2))) else {
         return Ok(Outcome::answer(alloc, Reply::Null));
     };
     match held.get(place) {
@@ -37,7 +38,11 @@ pub(crate) fn range(
     ensures { IfOk result
         (λ o. (old : Option (List (List ℕ))) → Does o old old (range held.now words.now)) }
 {
-    let cut = cut_range(held.len(), number(words, 2), number(words, 3));
+    let cut = cut_range(
+        held.len(),
+        number_in(words.word(2)),
+        number_in(words.word(3)),
+    );
     let items = copies(alloc, held, cut.start, cut.end)?;
     Ok(Outcome::answer(alloc, Reply::Array(items)))
 }

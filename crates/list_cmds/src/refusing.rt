@@ -6,7 +6,7 @@ ghost use Rattle.core_types.specs.CommandRow.{MeetArity};
 ghost use Rattle.sequences.specs.Words.{word};
 ghost use Rattle.list_cmds.specs.Commands.{command_row};
 ghost use Rattle.list_cmds.specs.Rows.{refusal};
-ghost use Rattle.list_cmds.specs.Words.{no_number};
+ghost use Rattle.core_types.specs.Refusals.{no_number};
 
 use crate::ListCmd;
 use byte_text::read_i64;
@@ -29,8 +29,5 @@ fn no_number(words: &Args, place: usize) -> Option<Refusal>
     requires { place < length words.now }
     ensures { result ≡ no_number (i64_of (word place words.now)) }
 {
-    match read_i64(words.word(place)) {
-        Some(_) => None,
-        None => Some(Refusal::NotAnInteger),
-    }
+    Refusal::no_number(read_i64(words.word(place)))
 }

@@ -13,7 +13,7 @@ use crate::reading::{index, range};
 use crate::refusing::refusal;
 use crate::taking::{pop_back, pop_front, remove, trim};
 use crate::words::counted;
-use core_types::{Args, ListBody, NoMemory, Outcome, Refusal, Reply};
+use core_types::{Args, ListBody, NoMemory, Outcome, Refusal, Replies, Reply};
 use std::alloc::Global;
 
 /// Runs a command on a key that holds the list `old`, or is not there. `Keep` says that `old` was
@@ -115,8 +115,8 @@ fn serve_absent(alloc: Global, cmd: ListCmd, words: &Args) -> Result<Outcome<Lis
         ListCmd::RPush => push_back_new(alloc, words),
         ListCmd::LPop | ListCmd::RPop => Ok(Outcome::answer(alloc, Reply::Null)),
         ListCmd::LLen => Ok(Outcome::answer(alloc, Reply::Int(0))),
-        ListCmd::LIndex => index(alloc, &ListBody::new(alloc), words),
-        ListCmd::LRange => range(alloc, &ListBody::new(alloc), words),
+        ListCmd::LIndex => Ok(Outcome::answer(alloc, Reply::Null)),
+        ListCmd::LRange => Ok(Outcome::answer(alloc, Reply::Array(Replies::new(alloc)))),
         ListCmd::LSet => Outcome::refuse(alloc, Refusal::NoSuchKey),
         ListCmd::LTrim => Ok(Outcome::answer(alloc, Reply::simple(alloc, b"OK")?)),
         ListCmd::LRem => Ok(Outcome::answer(alloc, Reply::Int(0))),

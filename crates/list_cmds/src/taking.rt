@@ -1,11 +1,12 @@
 //! LPOP, RPOP, LTRIM and LREM: they take items out of a list.
 
 ghost use Rattle.std.specs.Prelude.{◌≡◌, ◌<◌, ◌+◌, ◌∷◌, [], if◌then◌else◌, length, Some, IfOk, OnErr};
-ghost use Rattle.core_types.specs.Done.{Does, own_words};
+ghost use Rattle.core_types.specs.Done.{Does, own_words, del_note};
 ghost use Rattle.list_cmds.specs.Taking.{pop_back, pop_front, remove, trim, without};
-ghost use Rattle.list_cmds.specs.Words.{del_note, list_note};
+ghost use Rattle.list_cmds.specs.Words.{list_note};
 
-use crate::words::{counted, list_note, number};
+use crate::words::{counted, list_note};
+use byte_text::number_in;
 use core_types::{
     After, Args, Effect, ListBody, NoMemory, Note, NoteClass, Outcome, Reply, cut_range,
 };
@@ -64,7 +65,11 @@ pub(crate) fn trim(
         (λ o. Does o (Some old.old) (Some old.new) (trim (Some old.old) words.now)) }
     ensures err { OnErr result (old.new ≡ old.old) }
 {
-    let cut = cut_range(old.len(), number(words, 2), number(words, 3));
+    let cut = cut_range(
+        old.len(),
+        number_in(words.word(2)),
+        number_in(words.word(3)),
+    );
     let reply = Reply::simple(alloc, b"OK")?;
     let outcome = taken(
         alloc,
@@ -91,7 +96,7 @@ pub(crate) fn remove(
 {
     let emptied = taken(alloc, true, Reply::Null, b"LREM", b"lrem", words)?;
     let left = taken(alloc, false, Reply::Null, b"LREM", b"lrem", words)?;
-    let count = remove_equal(old, number(words, 2), words.word(3));
+    let count = remove_equal(old, number_in(words.word(2)), words.word(3));
     if count == 0 {
         return Ok(Outcome::answer(alloc, counted(0)));
     }

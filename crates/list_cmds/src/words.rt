@@ -1,20 +1,10 @@
 //! What the words of a command say, and how a list is counted.
 
 ghost use Rattle.std.specs.Prelude.{◌≡◌, ◌<◌, ◌≤◌, Some, length, drop, IfOk};
-ghost use Rattle.list_cmds.specs.Words.{counted, list_note, number, place_of};
+ghost use Rattle.list_cmds.specs.Words.{counted, list_note, place_of};
 
-use byte_text::read_i64;
 use core_types::{Args, Blob, NoMemory, Note, NoteClass, Reply, Sequence};
 use std::alloc::Global;
-
-/// The number that the word at a place writes, or 0 where it writes none.
-#[tactic(auto, unfolding(crate::specs::Words::number))]
-pub(crate) fn number(words: &Args, place: usize) -> i64
-    requires { place < length words.now }
-    ensures { result ≡ number place words.now }
-{
-    read_i64(words.word(place)).unwrap_or(0)
-}
 
 /// Which of this many items a number names, if it names one. A number below 0 counts from the end.
 pub(crate) fn place_of(size: usize, index: i64) -> Option<usize>
@@ -42,11 +32,11 @@ pub(crate) fn items_of(alloc: Global, words: &Args) -> Result<Sequence<Blob>, No
     requires { 2 ≤ length words.now }
     ensures { IfOk result (λ items. items ≡ drop 2 words.now) }
 {
-    let mut items = Sequence::new(alloc);
-    for word in &words.as_slice()[2..] {
-        items.push(word.copy(alloc)?)?;
+    let mut items = Vec::with_capacity(alloc, words.len() - 2)?;
+    for word in words.from_place(2) {
+        items.push(Blob::from_slice(alloc, word)?)?;
     }
-    Ok(items)
+    Ok(Sequence::from_vec(items))
 }
 
 /// An event of a list, on the key of these words.

@@ -7,9 +7,9 @@ use std::test::Fail;
 
 // Says each word, behind a space.
 fn say_words(text: &mut Blob, words: &Args) -> Result<(), NoMemory> {
-    for word in words.as_slice() {
+    for word in words.from_place(0) {
         text.push(b' ')?;
-        text.push_slice(word.as_slice())?;
+        text.push_slice(word)?;
     }
     Ok(())
 }

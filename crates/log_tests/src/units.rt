@@ -1,7 +1,7 @@
 ghost use Rattle.std.specs.Prelude.{◌<◌, length, IfOk};
 ghost use Rattle.effect_log.specs.Unit.{IsLoggable};
 
-use core_types::{Blob, Effect, NoMemory, Sequence};
+use core_types::{Args, Blob, Effect, NoMemory, Sequence};
 use effect_log::unit_text;
 use std::alloc::Global;
 use std::test::Fail;
@@ -11,9 +11,9 @@ fn removal(alloc: Global, key: &[u8]) -> Result<Effect, NoMemory>
     requires { length key.now < 100 }
     ensures { IfOk result IsLoggable }
 {
-    let mut words = Sequence::new(alloc);
-    words.push(Blob::from_slice(alloc, b"DEL")?)?;
-    words.push(Blob::from_slice(alloc, key)?)?;
+    let mut words = Args::new(alloc);
+    words.push(b"DEL")?;
+    words.push(key)?;
     Ok(Effect { words })
 }
 

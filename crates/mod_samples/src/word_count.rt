@@ -120,10 +120,10 @@ fn set_effect(alloc: Global, key: &[u8], word: &[u8], n: u64) -> Result<Effect, 
     ensures { IfOk result (λ effect. effect.words ≡ set_words key.now word.now n) }
 {
     let mut words = Args::new(alloc);
-    words.push(Blob::from_slice(alloc, b"WORDCOUNT.SET")?)?;
-    words.push(Blob::from_slice(alloc, key)?)?;
-    words.push(Blob::from_slice(alloc, word)?)?;
-    words.push(Blob::from_slice(alloc, u64_text(n).as_slice())?)?;
+    words.push(b"WORDCOUNT.SET")?;
+    words.push(key)?;
+    words.push(word)?;
+    words.push(u64_text(n).as_slice())?;
     Ok(Effect { words })
 }
 

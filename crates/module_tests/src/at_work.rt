@@ -24,7 +24,7 @@ use std::process::Abort;
 fn words_of(alloc: Global, line: &[u8]) -> Result<Args, NoMemory> {
     let mut words = Args::new(alloc);
     for word in line.split(|byte| *byte == b' ') {
-        words.push(Blob::from_slice(alloc, word)?)?;
+        words.push(word)?;
     }
     Ok(words)
 }
@@ -33,10 +33,7 @@ fn words_of(alloc: Global, line: &[u8]) -> Result<Args, NoMemory> {
 fn are_short(words: &Args) -> bool
     ensures { result ≡ list_all (λ word. nat_le (length word) longest) words.now }
 {
-    words
-        .as_slice()
-        .iter()
-        .all(|word| word.len() <= 536_870_912)
+    words.from_place(0).all(|word| word.len() <= 536_870_912)
 }
 
 // The command of this name.

@@ -126,7 +126,7 @@ fn word_at(words: &Args, place: usize) -> &[u8]
     ensures { result.now ≡ word place words.now }
 {
     match words.get(place) {
-        Some(word) => word.as_slice(),
+        Some(word) => word,
         None => b"",
     }
 }

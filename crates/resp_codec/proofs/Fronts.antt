@@ -82,7 +82,7 @@ word_bytes : (bytes : List ℕ) (start len : ℕ) → start ≤ length bytes →
 word_bytes bytes start len within small parts line_end.Open found = (word.Open, JudgesWord-open bytes start len small parts found)
 word_bytes bytes start len within small parts (line_end.Missing at) found = (word.Bad NoLineEnd (start + at), JudgesWord-missing bytes start len at within small parts found)
 word_bytes bytes start len within small parts line_end.There found =
-    (word.Whole (take len (drop start bytes)) (start + len + 2), JudgesWord-whole bytes (take len (drop start bytes)) start len within small parts found refl)
+    (word.Whole start len, JudgesWord-whole bytes start len within small parts found)
 
 word_length : (bytes : List ℕ) (end : ℕ) → slice_get bytes 0 ≡ Some 36 → IsHeaderLine bytes end → Numbered 536870912 (drop 1 (take end bytes)) → (answer : Word) × JudgesWord bytes answer
 word_length bytes end mark line (inl (len, small, e)) =
@@ -113,7 +113,7 @@ word_next : (bytes : List ℕ) (count : ℕ) (words : List (List ℕ)) (place : 
     ((word : List ℕ) (size : ℕ) → HasRead bytes count (words ++ word ∷ []) (place + size) → (answer : Array) × IsFront bytes answer) → (answer : Array) × IsFront bytes answer
 word_next bytes count words place read more word.Open judged further = (array.Unfinished, HasRead-open bytes count words place read more judged)
 word_next bytes count words place read more (word.Bad kind at) judged further = (array.Bad kind (place + at), HasRead-bad bytes count words place kind at read more judged)
-word_next bytes count words place read more (word.Whole word size) judged further = further word size (HasRead-push bytes count words word place size read more judged)
+word_next bytes count words place read more (word.Whole start len) judged further = further (take len (drop start (drop place bytes))) (start + len + 2) (HasRead-push bytes count words (take len (drop start (drop place bytes))) place (start + len + 2) read more judged.1)
 
 -- this many words are left to be read
 words_judged : (n : ℕ) (bytes : List ℕ) (count : ℕ) (words : List (List ℕ)) (place : ℕ) → HasRead bytes count words place → 0 < count → count ≡ length words + n → (answer : Array) × IsFront bytes answer

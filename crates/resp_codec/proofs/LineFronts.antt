@@ -1,7 +1,7 @@
 -- What stands at the front of any bytes, lines too. Serves clause some of the laws of laws.rt.
-use Rattle.std.proofs.Common.{◌≡◌, ◌⊎◌, ℕ, zero, suc, ◌+◌, ◌<◌, ◌≤◌, false, eqb, List, [], ◌∷◌, ◌++◌, length, take, drop, get_or, append_assoc, length-append, Option, Some, None, refl, sym, ap, subst, ◌∙◌, arith, inl, inr}
+use Rattle.std.proofs.Common.{◌≡◌, ◌⊎◌, ℕ, zero, suc, ◌+◌, ◌<◌, false, eqb, List, [], ◌∷◌, ◌++◌, length, take, drop, get_or, append_assoc, length-append, Option, Some, None, refl, sym, ap, subst, ◌∙◌, arith, inl, inr}
 use Rattle.std.specs.List.{list_any}
-use Rattle.std.proofs.lemmas.Bool.{cases_lt, eqb-true, lt-ltb}
+use Rattle.std.proofs.lemmas.Bool.{cases_lt, eqb-true}
 use Rattle.std.proofs.lemmas.List.{take_all, length-take-le}
 use Rattle.core_types.specs.declared.bad_request.BadRequest.{BadRequest}
 use Rattle.core_types.specs.declared.bad_request.BadRequest.TheVariants.{LineTooLong, Quote}
@@ -14,9 +14,8 @@ use Rattle.resp_codec.specs.inner.Line.{IsInlineLine}
 use Rattle.resp_codec.specs.Array.{IsFront}
 use Rattle.resp_codec.specs.declared.array.Array.{Array}
 use Rattle.resp_codec.specs.declared.array.Array.TheVariants as array
-use Rattle.resp_codec.proofs.Cuts.{SearchEnd, search_among, before_first-none, from_first-none}
-use Rattle.resp_codec.proofs.Judging.{judge-none, judge_at_line}
-use Rattle.resp_codec.proofs.Verdicts.{IsUnfinished-from_short}
+use Rattle.resp_codec.proofs.Cuts.{SearchEnd, search_among}
+use Rattle.resp_codec.proofs.RequestDue.{unfinished_line}
 use Rattle.resp_codec.proofs.InlineWords.{IsRequest-line}
 use Rattle.resp_codec.proofs.ReaderHeaders.{one_at}
 use Rattle.resp_codec.proofs.ReaderSteps.{bad_quote}
@@ -33,14 +32,6 @@ pub record BeginsSpan (bytes : List ℕ) : Type 0 where
 -- nothing whole stands at the front, or a bad place, or a span
 abbrev pub Front : List ℕ → Type 0
 Front bytes = IsUnfinished bytes ⊎ (((kind : BadRequest) × (at : ℕ) × BadAt bytes kind at) ⊎ BeginsSpan bytes)
-
-none_open : IsUnfinished []
-none_open = IsUnfinished-from_short [] judge-none
-
-line_open : (bytes : List ℕ) → 0 < length bytes → begins_array bytes ≡ false → length bytes ≤ 65536 → list_any (λ byte. eqb byte 10) bytes ≡ false → IsUnfinished bytes
-line_open bytes some no_array short unbroken =
-    IsUnfinished-from_short bytes (judge_at_line bytes some no_array
-    ∙ rw (before_first-none (λ byte. eqb byte 10) bytes unbroken, from_first-none (λ byte. eqb byte 10) bytes unbroken, lt-ltb (length bytes) 65537 (omega arith)) refl)
 
 -- a whole line without a quote
 line_span : (bytes : List ℕ) (end : ℕ) → IsInlineLine bytes end → list_any is_quote (take end bytes) ≡ false → (words : List (List ℕ)) → words ≡ line_words (take end bytes) → BeginsSpan bytes
@@ -106,7 +97,7 @@ other_front bytes some no_array =
           ))
       | inl near ↦ elim (cases_lt found.end (length bytes)) [
         | inl less ↦ line_front bytes found.end (is_inline_line bytes no_array found less near)
-        | inr all ↦ inl (line_open bytes some no_array (omega (arith, found.within)) (rw (take_all found.end bytes all) at found.none))
+        | inr all ↦ inl (unfinished_line bytes no_array (omega (arith, found.within)) (rw (take_all found.end bytes all) at found.none))
       ]
     ]
 
@@ -119,7 +110,7 @@ array_front bytes array.Unfinished front = inl front.unfinished
 array_front bytes (array.Bad kind at) front = inr (inl (kind, at, front.0.bad))
 
 pub front_of : (bytes : List ℕ) → Front bytes
-front_of [] = inl none_open
+front_of [] = inl (unfinished_line [] refl (omega arith) refl)
 front_of (byte ∷ bytes) =
     let front = some_front (byte ∷ bytes) (omega arith) in
     array_front (byte ∷ bytes) front.0 front.1

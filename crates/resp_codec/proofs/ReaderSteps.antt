@@ -309,6 +309,3 @@ takes_gathered passed read count len done word input begun small size there read
     let taken = takes_last passed read count len done (word ++ input) begun small (there_behind word input len size there) read_is (rw parts.0 whole) in
     subst (λ (t : List ℕ). Takes (stream passed (word_front count done len ++ (word ++ input))) (stream (passed + (read + (len + 2))) t) (done ++ word ∷ [])) parts.1
     (subst (λ (w : List ℕ). Takes (stream passed (word_front count done len ++ (word ++ input))) (stream (passed + (read + (len + 2))) (drop (len + 2) (word ++ input))) (done ++ w ∷ [])) parts.0 taken)
-
-pub pushed : (new room old : List (List ℕ)) (taken word : List ℕ) → new ≡ room ++ taken ∷ [] → room ≡ old → taken ≡ word → new ≡ old ++ word ∷ []
-pushed new room old taken word e same_room same_word = rw (← same_room, ← same_word) e

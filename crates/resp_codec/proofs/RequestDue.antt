@@ -1,7 +1,8 @@
 -- What stands where a request is due, and none was begun. Serves the clauses of `read_request`,
--- `read_count` and `take_count`.
-use Rattle.std.proofs.Common.{◌≡◌, ◌≢◌, ℕ, zero, suc, ◌+◌, true, false, List, [], ◌∷◌, ◌++◌, slice_get, take, drop, Some, None, refl, sym, ap, subst, ◌∙◌, append-nil, arith, inl}
-use Rattle.std.proofs.lemmas.Bool.{ne_eqb}
+-- `read_line`, `read_count` and `take_count`, and some of the laws.
+use Rattle.std.proofs.Common.{◌≡◌, ◌≢◌, ℕ, zero, suc, ◌+◌, ◌≤◌, true, false, eqb, length, List, [], ◌∷◌, ◌++◌, slice_get, take, drop, Some, None, refl, sym, ap, subst, ◌∙◌, append-nil, arith, inl}
+use Rattle.std.proofs.lemmas.Bool.{ne_eqb, lt-ltb}
+use Rattle.std.specs.List.{list_any}
 use Rattle.core_types.specs.declared.bad_request.BadRequest.TheVariants.{MultibulkLength}
 use Rattle.resp_codec.specs.Marks.{crlf, header}
 use Rattle.resp_codec.specs.Inline.{begins_array}
@@ -9,7 +10,8 @@ use Rattle.resp_codec.specs.Faults.{HeaderDue, BadAt, IsNoCount, IsHeaderText}
 use Rattle.resp_codec.specs.Stream.{IsUnfinished, SkipsOnly}
 use Rattle.resp_codec.specs.inner.Number.{IsCount}
 use Rattle.resp_codec.specs.inner.Header.{IsHeaderLine}
-use Rattle.resp_codec.proofs.Judging.{judge-none}
+use Rattle.resp_codec.proofs.Judging.{judge-none, judge_at_line}
+use Rattle.resp_codec.proofs.Cuts.{before_first-none, from_first-none}
 use Rattle.resp_codec.proofs.Verdicts.{IsUnfinished-from_short}
 use Rattle.resp_codec.proofs.Passing.{stream, SkipsOnly-none}
 use Rattle.resp_codec.proofs.ReaderSteps.{mark_text, header_parts}
@@ -24,6 +26,14 @@ some_injective a b e = cc
 pub unfinished_request : (input : List ℕ) → slice_get input 0 ≡ None → IsUnfinished input
 unfinished_request [] none = IsUnfinished-from_short [] judge-none
 unfinished_request (byte ∷ input) none = absurd (some_none byte none)
+
+-- its line has not ended
+pub unfinished_line : (input : List ℕ) → begins_array input ≡ false → length input ≤ 65536 → list_any (λ byte. eqb byte 10) input ≡ false → IsUnfinished input
+unfinished_line [] no_array short unbroken = IsUnfinished-from_short [] judge-none
+unfinished_line (byte ∷ input) no_array short unbroken =
+    let bytes = byte ∷ input in
+    IsUnfinished-from_short bytes (judge_at_line bytes (omega arith) no_array
+    ∙ rw (before_first-none (λ byte. eqb byte 10) bytes unbroken, from_first-none (λ byte. eqb byte 10) bytes unbroken, lt-ltb (length bytes) 65537 (omega arith)) refl)
 
 pub array_due : (input : List ℕ) → slice_get input 0 ≡ Some 42 → begins_array input ≡ true
 array_due [] first = absurd (some_none 42 (sym first))

@@ -38,15 +38,18 @@ JudgesWord-missing bytes start len place within small parts missing = (
       (subst (λ (k : ℕ). BadAt (before ++ header 36 len ++ drop start bytes) NoLineEnd k) there (bad_word_end before (drop start bytes) len place begun small missing)),
 )
 
-pub JudgesWord-whole : (bytes word : List ℕ) (start len : ℕ) → start ≤ length bytes → len ≤ 536870912 → bytes ≡ header 36 len ++ drop start bytes → IsFound (drop start bytes) len found.There → word ≡ take len (drop start bytes) →
-    JudgesWord bytes (answer.Whole word (start + len + 2))
-JudgesWord-whole bytes word start len within small parts there word_is =
+pub JudgesWord-whole : (bytes : List ℕ) (start len : ℕ) → start ≤ length bytes → len ≤ 536870912 → bytes ≡ header 36 len ++ drop start bytes → IsFound (drop start bytes) len found.There →
+    JudgesWord bytes (answer.Whole start len)
+JudgesWord-whole bytes start len within small parts there =
     let rest = drop start bytes in
-    let whole : bytes ≡ bulk word ++ drop (len + 2) rest = parts ∙ word_whole rest len there ∙ ap (λ (w : List ℕ). bulk w ++ drop (len + 2) rest) (sym word_is) in
+    let word = take len rest in
+    let whole : bytes ≡ bulk word ++ drop (len + 2) rest = parts ∙ word_whole rest len there in
     let size : start + len + 2 ≡ length (bulk word) = omega (arith, ap (λ (t : List ℕ). length t) whole, length-append (bulk word) (drop (len + 2) rest), length-drop (len + 2) rest, length-drop start bytes, there.0) in
-    let behind : start + (len + 2) ≡ start + len + 2 = omega arith in
-    record {
-      is_word = omega (arith, length-take len rest, ap (λ (w : List ℕ). length w) word_is);
-      takes = size;
-      whole = whole ∙ ap (λ (t : List ℕ). bulk word ++ t) (drop-drop (len + 2) start bytes ∙ ap (λ (k : ℕ). drop k bytes) behind);
-    }
+    let behind : start + (len + 2) ≡ start + len + 2 = omega arith in (
+      omega (arith, there.0, length-drop start bytes),
+      record {
+        is_word = omega (arith, length-take len rest);
+        takes = size;
+        whole = whole ∙ ap (λ (t : List ℕ). bulk word ++ t) (drop-drop (len + 2) start bytes ∙ ap (λ (k : ℕ). drop k bytes) behind);
+      },
+    )

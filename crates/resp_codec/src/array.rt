@@ -6,11 +6,12 @@ ghost use Rattle.resp_codec.specs.inner.Header.{IsHeaderLine};
 ghost use Rattle.resp_codec.specs.Array.{IsFront};
 ghost use Rattle.resp_codec.specs.declared.array.Array.{Array};
 
+use crate::ahead::ahead;
 use crate::header::{Header, judge};
 use crate::line::{CR, find};
 use crate::number::read_count;
 use crate::word::{Word, read_word};
-use core_types::{Args, BadRequest, NoMemory, Sequence};
+use core_types::{Args, BadRequest, NoMemory};
 use std::alloc::Global;
 
 /// What stands at the front of a byte list, where arrays alone may stand.
@@ -64,14 +65,16 @@ fn read_words(alloc: Global, bytes: &[u8], start: usize, count: usize) -> Result
     requires parts { bytes.now ≡ header star count ++ drop start bytes.now }
     ensures { IfOk result (λ array. IsFront bytes.now array) }
 {
-    let mut words = Sequence::new(alloc);
+    let mut words = Args::new(alloc);
+    let (due, room) = ahead(count);
+    words.reserve(due, room)?;
     let mut place = start;
     while words.len() < count {
         let (_, rest) = bytes.split_at(place);
-        match read_word(alloc, rest)? {
-            Word::Whole(word, size) => {
-                words.push(word)?;
-                place += size;
+        match read_word(rest) {
+            Word::Whole(begin, size) => {
+                words.push(&rest[begin..begin + size])?;
+                place += begin + size + 2;
             }
             Word::Open => return Ok(Array::Unfinished),
             Word::Bad(kind, at) => return Ok(Array::Bad(kind, place + at)),

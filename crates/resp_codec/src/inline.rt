@@ -6,7 +6,7 @@ ghost use Rattle.resp_codec.specs.Inline.{is_quote, line_words, words_of};
 ghost use Rattle.resp_codec.specs.inner.FirstQuote.{IsFirstQuote};
 
 use crate::line::CR;
-use core_types::{Args, Blob, NoMemory, Sequence};
+use core_types::{Args, NoMemory};
 use std::alloc::Global;
 
 /// The place of the first quote.
@@ -40,10 +40,10 @@ fn without_return(line: &[u8]) -> &[u8]
 fn words_of(alloc: Global, text: &[u8]) -> Result<Args, NoMemory>
     ensures { IfOk result (λ words. words ≡ words_of text.now) }
 {
-    let mut words = Sequence::new(alloc);
+    let mut words = Args::new(alloc);
     let parts = text.split(|byte| *byte == b' ' || *byte == b'\t');
     for word in parts.filter(|word| !word.is_empty()) {
-        words.push(Blob::from_slice(alloc, word)?)?;
+        words.push(word)?;
     }
     Ok(words)
 }

@@ -8,12 +8,14 @@
 //! says what stands at the front of bytes that are all there, where arrays alone may stand. Stands
 //! on `core_types`, `byte_text` for decimals, and `bytes`.
 //!
-//! Reading is linear in the bytes fed, whatever the pieces: the reader keeps its place, the words
-//! it has finished, and of a word under way the bytes that came, each held once; a word's block is
-//! never larger than the word. Writing is linear: a decimal takes no memory of its own, and a large
-//! bulk lets the buffer grow by its size and not to the double.
+//! Reading is linear in the bytes fed, whatever the pieces: the reader keeps its place, and copies
+//! the bytes of words once out of the input into the request that they make, also those of a word
+//! that is not whole, for which room is taken once. A short request takes two blocks. Writing is
+//! linear: a decimal takes no memory of its own, room for the words of a request is taken at once,
+//! and what is large lets the buffer grow by its size and not to the double.
 #![tactic(auto)]
 
+mod ahead;
 mod array;
 mod header;
 mod inline;
@@ -21,7 +23,6 @@ mod input;
 mod laws;
 mod line;
 mod number;
-mod partial;
 mod protocol_error;
 mod reader;
 mod reading;

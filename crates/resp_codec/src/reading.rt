@@ -8,16 +8,15 @@ ghost use Rattle.resp_codec.specs.Stream.{Takes, Waits, Refuses, SkipsOnly};
 ghost use Rattle.resp_codec.specs.inner.Underway.{begun, IsDue, IsDue-prop};
 ghost use Rattle.core_types.specs.declared.bad_request.BadRequest.{BadRequest};
 
+use crate::ahead::ahead;
 use crate::header::Header;
 use crate::inline::{first_quote, line_words};
 use crate::input::Input;
 use crate::line::{FARTHEST, LF, LineEnd};
 use crate::number::{read_count, read_length};
-use crate::partial::Partial;
 use crate::reader::Got;
-use core_types::{Args, BadRequest, Blob, NoMemory, Sequence};
+use core_types::{Args, BadRequest, Draft, NoMemory};
 use std::alloc::Global;
-use std::mem;
 
 /// What is due next.
 #[derive(Debug, Drop)]
@@ -55,12 +54,11 @@ pub(crate) struct Reading {
     stage: Stage,
     // How many words the next request has, those that were read, and what came of the next.
     count: usize,
-    words: Vec<Blob>,
-    word: Partial,
+    draft: Draft,
     input: Input,
-    ghost due: { IsDue stage count words.items word } by { IsDue-prop stage count words.items word },
-    ghost read_is: { read ≡ length (begun stage count words.items) },
-    ghost small: { passed + read + length word + length input < 2 ^ 64 },
+    ghost due: { IsDue stage count draft.words draft.tail } by { IsDue-prop stage count draft.words draft.tail },
+    ghost read_is: { read ≡ length (begun stage count draft.words) },
+    ghost small: { passed + read + length draft.tail + length input < 2 ^ 64 },
 }
 
 impl Reading {
@@ -79,8 +77,7 @@ impl Reading {
             read: 0,
             stage: Stage::Request,
             count: 0,
-            words: Vec::new(alloc),
-            word: Partial::new(alloc),
+            draft: Draft::new(alloc),
             input: Input::new(alloc),
         }
     }
@@ -100,7 +97,7 @@ impl Reading {
     pub(crate) fn rest(&self) -> u64
         ensures rest { result ≡ length (seen self.now).rest }
     {
-        self.read + self.word.len() as u64 + self.input.len() as u64
+        self.read + self.draft.tail_len() as u64 + self.input.len() as u64
     }
 
     /// Takes the next request.
@@ -215,7 +212,7 @@ impl Reading {
         ensures err { OnErr result (seen self.new ≡ seen self.old) }
     {
         self.gather(size)?;
-        if self.word.len() < size {
+        if self.draft.tail_len() < size {
             return Ok(Step::Wait);
         }
         match self.input.line_end(0) {
@@ -233,32 +230,35 @@ impl Reading {
         ensures shorter { length self.new.input ≤ length self.old.input }
         ensures all { OnOk result (IsGathered size self.new) }
     {
-        let more = self.input.len().min(size - self.word.len());
-        self.word.add(self.input.front(more), size)?;
+        let left = size - self.draft.tail_len();
+        if self.draft.len() == 0 {
+            let (words, bytes) = ahead(self.count - 1);
+            self.draft.reserve(words + 1, left + bytes)?;
+        }
+        let more = self.input.len().min(left);
+        self.draft.add(self.input.front(more), size)?;
         self.input.skip(more);
         Ok(())
     }
 
     fn take_word(&mut self, size: usize) -> Result<Step, NoMemory>
         requires stage { self.old.stage ≡ Stage.Word size }
-        requires all { length self.old.word ≡ size }
+        requires all { length self.old.draft.tail ≡ size }
         requires whole { IsFound self.old.input 0 LineEnd.There }
         ensures ok { IfOk result (Steps self.old self.new) }
         ensures err { OnErr result (seen self.new ≡ seen self.old) }
     {
-        self.words.reserve(1)?;
-        self.words.push_reserved(self.word.take());
+        self.draft.end_word()?;
         self.input.skip(2);
         self.read += size as u64 + 2;
-        if self.words.len() < self.count {
+        if self.draft.len() < self.count {
             self.stage = Stage::Length;
             return Ok(Step::Onward);
         }
         self.stage = Stage::Request;
         self.passed += self.read;
         self.read = 0;
-        let none = Vec::new(self.alloc);
-        Ok(Step::Took(Sequence::from_vec(mem::replace(&mut self.words, none))))
+        Ok(Step::Took(self.draft.take()))
     }
 
     fn read_line(&mut self) -> Result<Step, NoMemory>
@@ -297,7 +297,7 @@ impl Reading {
 
     // Why no request stands here, and where, counted from the first byte that was not read.
     fn refuse(&self, kind: BadRequest, place: usize) -> Step
-        requires within { place ≤ length self.now.word + length self.now.input }
+        requires within { place ≤ length self.now.draft.tail + length self.now.input }
         requires bad { BadAt (seen self.now).rest kind (self.now.read + place) }
         ensures { Steps self.now self.now result }
     {

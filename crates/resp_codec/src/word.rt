@@ -1,20 +1,19 @@
 //! Words: bulk strings, out of a byte list that is all there.
 
-ghost use Rattle.std.specs.Prelude.{◌≡◌, ◌≤◌, ◌++◌, length, drop, IfOk};
+ghost use Rattle.std.specs.Prelude.{◌≡◌, ◌≤◌, ◌++◌, length, drop};
 ghost use Rattle.resp_codec.specs.Marks.{dollar, header};
 ghost use Rattle.resp_codec.specs.inner.Word.{JudgesWord};
 
 use crate::header::{Header, judge};
 use crate::line::{CR, LineEnd, find, line_end};
 use crate::number::read_length;
-use core_types::{BadRequest, Blob, NoMemory};
-use std::alloc::Global;
+use core_types::BadRequest;
 
 /// What stands where a word is due.
-#[derive(Drop)]
+#[derive(Clone, Copy)]
 pub(crate) enum Word {
-    /// A word, and how many bytes its bulk string takes.
-    Whole(Blob, usize),
+    /// A word: where its bytes begin, and how many they are. CR LF stands behind them.
+    Whole(usize, usize),
     /// A word whose end has not come yet.
     Open,
     /// No word, and the place of the byte that shows it.
@@ -22,39 +21,36 @@ pub(crate) enum Word {
 }
 
 /// What stands at the front of the bytes.
-pub(crate) fn read_word(alloc: Global, bytes: &[u8]) -> Result<Word, NoMemory>
-    ensures { IfOk result (JudgesWord bytes.now) }
+pub(crate) fn read_word(bytes: &[u8]) -> Word
+    ensures { JudgesWord bytes.now result }
 {
     match bytes.first().copied() {
-        None => return Ok(Word::Open),
+        None => return Word::Open,
         Some(b'$') => {}
-        Some(byte) => return Ok(Word::Bad(BadRequest::ExpectedDollar(byte), 0)),
+        Some(byte) => return Word::Bad(BadRequest::ExpectedDollar(byte), 0),
     }
     let end = match judge(bytes, find(bytes, 0, CR)) {
-        Header::Open => return Ok(Word::Open),
-        Header::Bad(kind, place) => return Ok(Word::Bad(kind, place)),
+        Header::Open => return Word::Open,
+        Header::Bad(kind, place) => return Word::Bad(kind, place),
         Header::Line(end) => end,
     };
     let Some(length) = read_length(&bytes[1..end]) else {
-        return Ok(Word::Bad(BadRequest::BulkLength, 0));
+        return Word::Bad(BadRequest::BulkLength, 0);
     };
-    take_word(alloc, bytes, end + 2, length as usize)
+    take_word(bytes, end + 2, length as usize)
 }
 
 // What stands there, where a word of this size is due behind a header of this many bytes.
-fn take_word(alloc: Global, bytes: &[u8], start: usize, size: usize) -> Result<Word, NoMemory>
+fn take_word(bytes: &[u8], start: usize, size: usize) -> Word
     requires within { start ≤ length bytes.now }
     requires small { size ≤ 536870912 }
     requires parts { bytes.now ≡ header dollar size ++ drop start bytes.now }
-    ensures { IfOk result (JudgesWord bytes.now) }
+    ensures { JudgesWord bytes.now result }
 {
     let (_, rest) = bytes.split_at(start);
     match line_end(rest, size) {
-        LineEnd::Open => Ok(Word::Open),
-        LineEnd::Missing(place) => Ok(Word::Bad(BadRequest::NoLineEnd, start + place)),
-        LineEnd::There => {
-            let word = Blob::from_slice(alloc, &rest[..size])?;
-            Ok(Word::Whole(word, start + size + 2))
-        }
+        LineEnd::Open => Word::Open,
+        LineEnd::Missing(place) => Word::Bad(BadRequest::NoLineEnd, start + place),
+        LineEnd::There => Word::Whole(start, size),
     }
 }

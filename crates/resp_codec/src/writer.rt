@@ -10,9 +10,6 @@ ghost use Rattle.resp_codec.specs.Spelling.{multibulk, IsRequest, bulk};
 use byte_text::{i64_text, u64_text};
 use core_types::{Args, Blob, NoMemory, Part, Replies, Reply};
 
-// A bulk of more bytes than this is large.
-const LARGE: usize = 65_536;
-
 // What stands around the bytes of a bulk: `$`, a decimal of at most twenty digits, and two line
 // ends.
 const BULK_FRAME: usize = 25;
@@ -55,7 +52,7 @@ fn append_reply(out: &mut Blob, reply: &Reply) -> Result<(), NoMemory>
         Reply::Simple(line) => append_line(out, b'+', line.as_slice()),
         Reply::Error(line) => append_line(out, b'-', line.as_slice()),
         Reply::Int(n) => append_int(out, *n),
-        Reply::Bulk(bytes) => append_bulk(out, bytes),
+        Reply::Bulk(bytes) => append_bulk(out, bytes.as_slice()),
         Reply::Null => out.push_slice(b"$-1\r\n"),
         Reply::Array(replies) => append_array(out, replies),
         Reply::NullArray => out.push_slice(b"*-1\r\n"),
@@ -83,7 +80,7 @@ fn append_part(out: &mut Blob, part: &Part) -> Result<(), NoMemory>
         Part::Simple(line) => append_line(out, b'+', line.as_slice()),
         Part::Error(line) => append_line(out, b'-', line.as_slice()),
         Part::Int(n) => append_int(out, *n),
-        Part::Bulk(bytes) => append_bulk(out, bytes),
+        Part::Bulk(bytes) => append_bulk(out, bytes.as_slice()),
         Part::Null => out.push_slice(b"$-1\r\n"),
         Part::NullArray => out.push_slice(b"*-1\r\n"),
         Part::ArrayOf(count) => append_header(out, b'*', *count),
@@ -94,31 +91,44 @@ fn append_request(out: &mut Blob, words: &Args) -> Result<(), NoMemory>
     ensures ok { OnOk result (out.new ≡ out.old ++ multibulk words.now) }
     ensures err { OnErr result (take (length out.old) out.new ≡ out.old) }
 {
+    make_room_for_words(out, words)?;
     append_header(out, b'*', words.len() as u64)?;
-    for word in words.as_slice() {
+    for word in words.from_place(0) {
         append_bulk(out, word)?;
     }
     Ok(())
 }
 
-fn append_bulk(out: &mut Blob, bytes: &Blob) -> Result<(), NoMemory>
+fn append_bulk(out: &mut Blob, bytes: &[u8]) -> Result<(), NoMemory>
     ensures ok { OnOk result (out.new ≡ out.old ++ bulk bytes.now) }
     ensures err { OnErr result (take (length out.old) out.new ≡ out.old) }
 {
-    make_room(out, bytes.len())?;
+    make_room(out, bytes.len().saturating_add(BULK_FRAME))?;
     append_header(out, b'$', bytes.len() as u64)?;
-    append_ended(out, bytes.as_slice())
+    append_ended(out, bytes)
 }
 
-// The buffer grows by the size of a large bulk, and not to the double; a shorter one than what
-// stands there leaves it to grow as ever, so that what stands there is moved seldom.
+// Room for the bulks of all words is taken at once.
+fn make_room_for_words(out: &mut Blob, words: &Args) -> Result<(), NoMemory>
+    ensures same { out.new ≡ out.old }
+{
+    let mut size: usize = BULK_FRAME;
+    for word in words.from_place(0) {
+        size = size.saturating_add(word.len()).saturating_add(BULK_FRAME);
+    }
+    make_room(out, size)
+}
+
+// The buffer gets room for what is longer than all that stands there; it grows by the size of what
+// is large, and not to the double. What is shorter leaves it to grow as ever, so that what stands
+// there is moved seldom.
 fn make_room(out: &mut Blob, size: usize) -> Result<(), NoMemory>
     ensures same { out.new ≡ out.old }
 {
-    if size <= LARGE.max(out.len()) {
+    if size <= out.len() {
         return Ok(());
     }
-    out.reserve(size.saturating_add(BULK_FRAME))
+    out.reserve(size)
 }
 
 // A mark, and a count in decimal, as a line.

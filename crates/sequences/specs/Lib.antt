@@ -1,2 +1,4 @@
 pub mod Causes
 pub mod Words
+pub mod Drafts
+pub mod inner

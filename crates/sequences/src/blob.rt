@@ -109,7 +109,8 @@ impl Blob {
     }
 
     /// Takes memory for this number of bytes more, so that adding them takes none. What is longer
-    /// than 64 KiB gets just what it needs.
+    /// than 64 KiB gets just what it needs. No clause speaks of the room: contracts see a `Blob` as
+    /// its list of bytes alone, and room is no part of that.
     pub fn reserve(&mut self, more: usize) -> Result<(), NoMemory>
         ensures same { self.new ≡ self.old }
     {

@@ -173,8 +173,5 @@ fn next_piece<S: Source>(source: &mut S, buffer: &mut [u8], taken: u64) -> Resul
 fn is_quit(words: &Args) -> bool
     ensures { result ≡ quits words.now }
 {
-    match words.as_slice() {
-        [name] => name.as_slice().eq_ignore_ascii_case(b"QUIT"),
-        _ => false,
-    }
+    words.len() == 1 && words.word(0).eq_ignore_ascii_case(b"QUIT")
 }

@@ -4,7 +4,7 @@ use Rattle.std.specs.Prelude.{◌+ℤ◌}
 use Rattle.std.specs.List.{AllByRecursion}
 use Rattle.std.specs.Fmt.{signed_decimal}
 use Rattle.std.proofs.lemmas.Bool.Decides.{nat_tests}
-use Rattle.byte_text.specs.Number.{fits_i64}
+use Rattle.byte_text.specs.Number.{fits_i64, number_in, number_held}
 use Rattle.byte_text.proofs.Decimals.{is_fit, signed_decimal-short}
 use Rattle.core_types.specs.Done.{Done, answers, unless_refused}
 use Rattle.sequences.specs.Words.{word}
@@ -14,12 +14,13 @@ use Rattle.core_types.specs.declared.reply.Reply.{Reply}
 use Rattle.string_cmds.specs.declared.command.StringCmd.{StringCmd}
 use Rattle.string_cmds.specs.declared.command.StringCmd.TheVariants as command
 use Rattle.string_cmds.specs.declared.setting.Condition.{Condition}
-use Rattle.string_cmds.specs.Words.{held_bytes, number}
+use Rattle.string_cmds.specs.Words.{held_bytes}
 use Rattle.string_cmds.specs.Setting.{condition_of, no_condition, set_if_absent, set_where, sets}
 use Rattle.string_cmds.specs.Writing.{append, append_to, laid_over, lay_over, set_range, within_limit, writes}
-use Rattle.string_cmds.specs.Counting.{adds, number_held}
+use Rattle.string_cmds.specs.Counting.{adds}
 use Rattle.string_cmds.specs.Rows.{other_row, row}
-use Rattle.string_cmds.specs.Laws.{IsKept, IsWithinLimits, KeepsLimits}
+use Rattle.core_types.specs.Limits.{IsWithinLimits}
+use Rattle.string_cmds.specs.Laws.{IsKept, KeepsLimits}
 use Rattle.string_cmds.proofs.Laying.{length-laid_over}
 
 short_word : (place : ℕ) (words : List (List ℕ)) → AllByRecursion IsString words → IsString (word place words)
@@ -123,8 +124,8 @@ row_keeps command.GetRange old words h k = unless_keeps old _ _ h (stays old _ h
 row_keeps command.SetRange old words h k = unless_keeps old _ _ h (range_keeps old words h k)
 row_keeps command.Incr old words h k = adds_keep old (pos 1) (number_held old) words h k
 row_keeps command.Decr old words h k = adds_keep old (negsuc 0) (number_held old) words h k
-row_keeps command.IncrBy old words h k = unless_adds old _ (number 2 words) (number_held old) words h k
-row_keeps command.DecrBy old words h k = unless_adds old _ (neg_ℤ (number 2 words)) (number_held old) words h k
+row_keeps command.IncrBy old words h k = unless_adds old _ (number_in (word 2 words)) (number_held old) words h k
+row_keeps command.DecrBy old words h k = unless_adds old _ (neg_ℤ (number_in (word 2 words))) (number_held old) words h k
 
 pub other_keeps : (cmd : StringCmd) (words : List (List ℕ)) → IsWithinLimits words → KeepsLimits None (other_row cmd words)
 other_keeps command.Get words k = stays None _ tt

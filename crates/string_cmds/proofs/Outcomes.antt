@@ -4,13 +4,14 @@ use Rattle.std.specs.Prelude.{◌+ℤ◌, ◌==◌}
 use Rattle.std.specs.Int.{w64}
 use Rattle.std.proofs.lemmas.Bool.Decides.{nat_tests}
 use Rattle.byte_text.proofs.Decimals.{fits}
+use Rattle.byte_text.specs.Number.{number_in}
 use Rattle.core_types.specs.Done.{Done, Does}
 use Rattle.sequences.specs.Words.{word}
 use Rattle.core_types.specs.Keyspace.{longest}
 use Rattle.core_types.specs.declared.outcome.Outcome.{Outcome}
 use Rattle.core_types.specs.declared.reply.Reply.TheVariants as reply
 use Rattle.string_cmds.specs.declared.setting.Condition.{Condition}
-use Rattle.string_cmds.specs.Words.{number, offset_of}
+use Rattle.string_cmds.specs.Words.{offset_of}
 use Rattle.string_cmds.specs.Setting.{may_set, set_where, sets}
 use Rattle.string_cmds.specs.Writing.{laid_over, set_range, within_limit, writes}
 use Rattle.string_cmds.specs.Counting.{adds, becomes_number}
@@ -30,7 +31,7 @@ allowed_set asked there words e = rw e refl
 within : (size : ℕ) (done : Done (List ℕ)) → size ≤ longest → within_limit size done ≡ done
 within size done h = let test : nat_lt longest size ≡ false = grind (arith, nat_tests) in rw test refl
 
-pub range_done : (held : List ℕ) (words : List (List ℕ)) (start : ℕ) (piece : List ℕ) → piece ≡ word 3 words → start ≡ offset_of (number 2 words) → (length piece == 0) ≡ false → start + length piece ≤ longest → set_range held words ≡ writes (laid_over held start piece) (codes "SETRANGE") (codes "setrange") words
+pub range_done : (held : List ℕ) (words : List (List ℕ)) (start : ℕ) (piece : List ℕ) → piece ≡ word 3 words → start ≡ offset_of (number_in (word 2 words)) → (length piece == 0) ≡ false → start + length piece ≤ longest → set_range held words ≡ writes (laid_over held start piece) (codes "SETRANGE") (codes "setrange") words
 range_done held words start piece e f some short =
     rw (← e, ← f) (rw some (within (start + length piece) _ short))
 

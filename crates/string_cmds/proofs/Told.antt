@@ -2,7 +2,7 @@
 use Rattle.std.proofs.Common.{◌≡◌, inl, inr, nat_lt, if◌then◌else◌, ℕ, ℤ, pos, negsuc, neg_ℤ, Bool, true, false, List, [], ◌∷◌, length, drop, codes, Option, Some, None, is_some, refl, sym, ap, ◌∙◌, ◌++◌, ◌+◌}
 use Rattle.std.specs.Prelude.{◌+ℤ◌, ◌==◌}
 use Rattle.std.specs.Fmt.{signed_decimal}
-use Rattle.byte_text.specs.Number.{fits_i64, i64_of}
+use Rattle.byte_text.specs.Number.{fits_i64, i64_of, number_in, number_held}
 use Rattle.byte_text.proofs.Decimals.{is_fit, i64_of-decimal}
 use Rattle.core_types.specs.CommandRow.{MeetArity}
 use Rattle.core_types.specs.Done.{Done, answers, unless_refused}
@@ -15,13 +15,15 @@ use Rattle.string_cmds.specs.declared.command.StringCmd.{StringCmd}
 use Rattle.string_cmds.specs.declared.command.StringCmd.TheVariants as command
 use Rattle.string_cmds.specs.declared.setting.Condition.{Condition}
 use Rattle.string_cmds.specs.Commands.{command_row}
-use Rattle.string_cmds.specs.Words.{held_bytes, no_offset, number, offset_of}
-use Rattle.string_cmds.specs.Reading.{bulk_or_null}
+use Rattle.string_cmds.specs.Words.{held_bytes, no_offset, offset_of}
+use Rattle.core_types.specs.Answers.{bulk_or_null}
 use Rattle.string_cmds.specs.Setting.{condition_of, no_condition, may_set, set_effect, set_if_absent, set_where, sets}
 use Rattle.string_cmds.specs.Writing.{append, append_to, laid_over, lay_over, set_range, within_limit, writes}
-use Rattle.string_cmds.specs.Counting.{add_effect, adds, becomes_number, number_held}
+use Rattle.string_cmds.specs.Counting.{add_effect, adds, becomes_number}
 use Rattle.string_cmds.specs.Rows.{other_row, row}
-use Rattle.string_cmds.specs.Laws.{Acts, ChangesAtMostOnce, ChangesNothing, ChangesOnce, IsRefusal}
+use Rattle.core_types.specs.CommandLaws.{ChangesNothing}
+use Rattle.core_types.specs.Refusals.{IsRefusal}
+use Rattle.string_cmds.specs.Laws.{Acts, ChangesAtMostOnce, ChangesOnce}
 
 -- on a key that holds a string or is not there
 abbrev pub on_string : Option (List ℕ) → Acts
@@ -130,17 +132,17 @@ unfolding word
 append_told None first rest arity = append_to_told (on_string None) [] first rest arity refl
 append_told (Some held) first rest arity = append_some_told held first rest _ arity refl
 
-lay_over_told : (acts : Acts) (held first : List ℕ) (rest : List (List ℕ)) → MeetArity (command_row command.SetRange) (first ∷ rest) → acts command.SetRange (codes "SETRANGE" ∷ rest) ≡ lay_over held (offset_of (number 2 (codes "SETRANGE" ∷ rest))) (codes "SETRANGE" ∷ rest) → ChangesAtMostOnce acts (word 1 (first ∷ rest)) (lay_over held (offset_of (number 2 (first ∷ rest))) (first ∷ rest))
-unfolding word number
+lay_over_told : (acts : Acts) (held first : List ℕ) (rest : List (List ℕ)) → MeetArity (command_row command.SetRange) (first ∷ rest) → acts command.SetRange (codes "SETRANGE" ∷ rest) ≡ lay_over held (offset_of (number_in (word 2 (codes "SETRANGE" ∷ rest)))) (codes "SETRANGE" ∷ rest) → ChangesAtMostOnce acts (word 1 (first ∷ rest)) (lay_over held (offset_of (number_in (word 2 (first ∷ rest)))) (first ∷ rest))
+unfolding word number_in
 lay_over_told acts held first rest arity h =
     let piece = word 3 (first ∷ rest) in
-    let start = offset_of (number 2 (first ∷ rest)) in
+    let start = offset_of (number_in (word 2 (first ∷ rest))) in
     let size = start + length piece in
     limit_told acts _ size _ (nat_lt longest size) refl
     (λ short. write_again acts command.SetRange (laid_over held start piece) (codes "SETRANGE") (codes "setrange") first rest refl refl arity (h ∙ rw short refl))
 
 range_told : (old : Option (List ℕ)) (first : List ℕ) (rest : List (List ℕ)) (b : Bool) → MeetArity (command_row command.SetRange) (first ∷ rest) → no_offset (i64_of (word 2 (first ∷ rest))) ≡ None → (length (word 3 (first ∷ rest)) == 0) ≡ b → ChangesAtMostOnce (on_string old) (word 1 (first ∷ rest)) (set_range (held_bytes old) (first ∷ rest))
-unfolding word number
+unfolding word number_in
 range_told old first rest true arity good e = rw e (answered _ _ _)
 range_told old first rest false arity good e = rw e (lay_over_told (on_string old) (held_bytes old) first rest arity (rw (good, e) refl))
 
@@ -149,7 +151,7 @@ set_range_told old first rest arity good = range_told old first rest _ arity goo
 
 -- INCRBY with the amount of the effect adds the amount
 add_again : (old : Option (List ℕ)) (amount : ℤ) (key : List ℕ) → fits_i64 amount ≡ true → row command.IncrBy old (codes "INCRBY" ∷ key ∷ signed_decimal amount ∷ []) ≡ adds amount (number_held old) (codes "INCRBY" ∷ key ∷ signed_decimal amount ∷ [])
-unfolding word number
+unfolding word number_in
 add_again old amount key e = rw (i64_of-decimal amount (is_fit amount e)) refl
 
 sum_again : (old : Option (List ℕ)) (amount n : ℤ) (words : List (List ℕ)) → number_held old ≡ Some n → fits_i64 amount ≡ true → fits_i64 (n +ℤ amount) ≡ true → ChangesOnce (on_string old) (word 1 words) (becomes_number (n +ℤ amount) amount words)
@@ -218,8 +220,8 @@ first_told command.GetRange old first rest h = unless _ _ _ _ (λ good. answered
 first_told command.SetRange old first rest h = unless _ _ _ _ (λ good. set_range_told old first rest h good)
 first_told command.Incr old first rest h = adds_told old (pos 1) (first ∷ rest)
 first_told command.Decr old first rest h = adds_told old (negsuc 0) (first ∷ rest)
-first_told command.IncrBy old first rest h = unless _ _ _ _ (λ good. adds_told old (number 2 (first ∷ rest)) (first ∷ rest))
-first_told command.DecrBy old first rest h = unless _ _ _ _ (λ good. adds_told old (neg_ℤ (number 2 (first ∷ rest))) (first ∷ rest))
+first_told command.IncrBy old first rest h = unless _ _ _ _ (λ good. adds_told old (number_in (word 2 (first ∷ rest))) (first ∷ rest))
+first_told command.DecrBy old first rest h = unless _ _ _ _ (λ good. adds_told old (neg_ℤ (number_in (word 2 (first ∷ rest)))) (first ∷ rest))
 
 pub row_told : (cmd : StringCmd) (old : Option (List ℕ)) (words : List (List ℕ)) → MeetArity (command_row cmd) words → ChangesAtMostOnce (on_string old) (word 1 words) (row cmd old words)
 row_told cmd old [] h = absurd (no_words cmd h)

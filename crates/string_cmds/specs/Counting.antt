@@ -1,18 +1,13 @@
 -- INCR, DECR, INCRBY and DECRBY: they add to the number that a key holds.
-use Rattle.std.specs.Prelude.{ℕ, ℤ, pos, ◌+ℤ◌, if◌then◌else◌, List, [], ◌∷◌, codes, Option, Some, None}
+use Rattle.std.specs.Prelude.{ℕ, ℤ, ◌+ℤ◌, if◌then◌else◌, List, [], ◌∷◌, codes, Option, Some, None}
 use Rattle.std.specs.Fmt.{signed_decimal}
-use Rattle.byte_text.specs.Number.{i64_of, fits_i64}
+use Rattle.byte_text.specs.Number.{fits_i64}
 use Rattle.core_types.specs.Done.{Done, Change, refuses, changes}
 use Rattle.sequences.specs.Words.{word}
 use Rattle.core_types.specs.declared.effect.Effect.{Effect}
 use Rattle.core_types.specs.declared.refusal.Refusal.TheVariants as refusal
 use Rattle.core_types.specs.declared.reply.Reply.TheVariants as reply
 use Rattle.string_cmds.specs.Words.{string_note}
-
--- the number that a key holds, 0 where it is not there
-abbrev pub number_held : Option (List ℕ) → Option ℤ
-number_held None = Some (pos 0)
-number_held (Some bytes) = i64_of bytes
 
 -- `INCRBY k amount`
 abbrev pub add_effect : ℤ → List (List ℕ) → Effect

@@ -1,18 +1,20 @@
 -- What each command on a string does to a key: one line a command, after the Redis command
 -- reference.
 use Rattle.std.specs.Prelude.{ℕ, pos, negsuc, neg_ℤ, true, List, drop, Option, None, is_some}
-use Rattle.byte_text.specs.Number.{i64_of}
+use Rattle.byte_text.specs.Number.{i64_of, number_in, number_held}
 use Rattle.core_types.specs.Done.{Done, refuses, unless_refused}
 use Rattle.sequences.specs.Words.{word}
 use Rattle.core_types.specs.declared.refusal.Refusal.{Refusal}
 use Rattle.core_types.specs.declared.refusal.Refusal.TheVariants as refusals
 use Rattle.string_cmds.specs.declared.command.StringCmd.{StringCmd}
 use Rattle.string_cmds.specs.declared.command.StringCmd.TheVariants as command
-use Rattle.string_cmds.specs.Words.{held_bytes, number, no_number, no_offset, or_else}
-use Rattle.string_cmds.specs.Reading.{bulk_or_null, get, string_length, get_range}
+use Rattle.core_types.specs.Refusals.{no_number, or_else}
+use Rattle.string_cmds.specs.Words.{held_bytes, no_offset}
+use Rattle.core_types.specs.Answers.{bulk_or_null}
+use Rattle.string_cmds.specs.Reading.{get, string_length, get_range}
 use Rattle.string_cmds.specs.Setting.{condition_of, no_condition, set_where, set_if_absent, sets}
 use Rattle.string_cmds.specs.Writing.{append, set_range}
-use Rattle.string_cmds.specs.Counting.{adds, number_held}
+use Rattle.string_cmds.specs.Counting.{adds}
 
 -- for what the words alone are refused, whatever the key holds
 abbrev pub refusal : StringCmd → List (List ℕ) → Option Refusal
@@ -42,8 +44,8 @@ served command.GetRange old words = get_range (held_bytes old) words
 served command.SetRange old words = set_range (held_bytes old) words
 served command.Incr old words = adds (pos 1) (number_held old) words
 served command.Decr old words = adds (negsuc 0) (number_held old) words
-served command.IncrBy old words = adds (number 2 words) (number_held old) words
-served command.DecrBy old words = adds (neg_ℤ (number 2 words)) (number_held old) words
+served command.IncrBy old words = adds (number_in (word 2 words)) (number_held old) words
+served command.DecrBy old words = adds (neg_ℤ (number_in (word 2 words))) (number_held old) words
 
 -- where the key holds a value of another kind: SET and SETNX alone take it
 abbrev pub served_other : StringCmd → List (List ℕ) → Done (List ℕ)

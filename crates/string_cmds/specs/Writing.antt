@@ -1,12 +1,13 @@
 -- APPEND and SETRANGE: they write into a string.
 use Rattle.std.specs.Prelude.{ℕ, pos, ◌+◌, ◌-◌, ◌++◌, ◌==◌, ◌&&◌, nat_lt, nat_le, max, if◌then◌else◌, List, [], length, map, slice_index, codes, Option, Some, None}
 use Rattle.std.specs.List.{range_with_len}
+use Rattle.byte_text.specs.Number.{number_in}
 use Rattle.core_types.specs.Done.{Done, Change, answers, refuses, changes, own_words}
 use Rattle.sequences.specs.Words.{word}
 use Rattle.core_types.specs.Keyspace.{longest}
 use Rattle.core_types.specs.declared.refusal.Refusal.TheVariants as refusal
 use Rattle.core_types.specs.declared.reply.Reply.TheVariants as reply
-use Rattle.string_cmds.specs.Words.{number, offset_of, string_note}
+use Rattle.string_cmds.specs.Words.{offset_of, string_note}
 
 -- the key holds these bytes from now on, and their number is answered
 abbrev pub writes : List ℕ → List ℕ → List ℕ → List (List ℕ) → Done (List ℕ)
@@ -51,4 +52,4 @@ lay_over held offset words =
 abbrev pub set_range : List ℕ → List (List ℕ) → Done (List ℕ)
 set_range held words =
     if length (word 3 words) == 0 then answers (reply.Int (pos (length held)))
-    else lay_over held (offset_of (number 2 words)) words
+    else lay_over held (offset_of (number_in (word 2 words))) words

@@ -2,7 +2,7 @@
 
 ghost use Rattle.std.specs.Prelude.{◌≡◌};
 ghost use Rattle.core_types.specs.CommandRow.{row_of_spec, takes};
-ghost use Rattle.string_cmds.specs.Commands.{command_row, reading, writing};
+ghost use Rattle.string_cmds.specs.Commands.{command_row};
 
 use core_types::CommandSpec;
 
@@ -58,18 +58,18 @@ impl StringCmd {
         ensures row { row_of_spec result ≡ command_row self }
     {
         match self {
-            StringCmd::Get => reads(b"GET", 2),
-            StringCmd::Set => writes(b"SET", -3),
-            StringCmd::SetNx => writes(b"SETNX", 3),
-            StringCmd::GetSet => writes(b"GETSET", 3),
-            StringCmd::Append => writes(b"APPEND", 3),
-            StringCmd::StrLen => reads(b"STRLEN", 2),
-            StringCmd::GetRange => reads(b"GETRANGE", 4),
-            StringCmd::SetRange => writes(b"SETRANGE", 4),
-            StringCmd::Incr => writes(b"INCR", 2),
-            StringCmd::Decr => writes(b"DECR", 2),
-            StringCmd::IncrBy => writes(b"INCRBY", 3),
-            StringCmd::DecrBy => writes(b"DECRBY", 3),
+            StringCmd::Get => CommandSpec::reading(b"GET", 2),
+            StringCmd::Set => CommandSpec::writing(b"SET", -3),
+            StringCmd::SetNx => CommandSpec::writing(b"SETNX", 3),
+            StringCmd::GetSet => CommandSpec::writing(b"GETSET", 3),
+            StringCmd::Append => CommandSpec::writing(b"APPEND", 3),
+            StringCmd::StrLen => CommandSpec::reading(b"STRLEN", 2),
+            StringCmd::GetRange => CommandSpec::reading(b"GETRANGE", 4),
+            StringCmd::SetRange => CommandSpec::writing(b"SETRANGE", 4),
+            StringCmd::Incr => CommandSpec::writing(b"INCR", 2),
+            StringCmd::Decr => CommandSpec::writing(b"DECR", 2),
+            StringCmd::IncrBy => CommandSpec::writing(b"INCRBY", 3),
+            StringCmd::DecrBy => CommandSpec::writing(b"DECRBY", 3),
         }
     }
 
@@ -78,29 +78,5 @@ impl StringCmd {
         ensures takes { result ≡ takes (command_row self).arity count }
     {
         self.spec().takes(count)
-    }
-}
-
-// A command that changes no key.
-fn reads(name: &'static [u8], arity: i32) -> CommandSpec
-    ensures { row_of_spec result ≡ reading name.now arity }
-{
-    CommandSpec {
-        name,
-        arity,
-        writes: false,
-        key: 1,
-    }
-}
-
-// A command that can change its key.
-fn writes(name: &'static [u8], arity: i32) -> CommandSpec
-    ensures { row_of_spec result ≡ writing name.now arity }
-{
-    CommandSpec {
-        name,
-        arity,
-        writes: true,
-        key: 1,
     }
 }

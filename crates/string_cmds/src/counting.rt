@@ -2,7 +2,8 @@
 
 ghost use Rattle.std.specs.Prelude.{◌≡◌, ◌<◌, ◌∷◌, [], pos, codes, length, Some, None, IfOk, OnErr};
 ghost use Rattle.core_types.specs.Done.{Does};
-ghost use Rattle.string_cmds.specs.Counting.{add_effect, adds, number_held};
+ghost use Rattle.byte_text.specs.Number.{number_held};
+ghost use Rattle.string_cmds.specs.Counting.{add_effect, adds};
 ghost use Rattle.string_cmds.specs.Words.{string_note};
 
 use crate::words::string_note;

@@ -5,7 +5,10 @@ ghost use Rattle.core_types.specs.CommandRow.{MeetArity};
 ghost use Rattle.sequences.specs.Words.{word};
 ghost use Rattle.string_cmds.specs.declared.command.StringCmd.{StringCmd};
 ghost use Rattle.string_cmds.specs.Commands.{command_row};
-ghost use Rattle.string_cmds.specs.Laws.{ChangesAtMostOnce, ChangesNothing, IsKept, IsRefusal, IsWithinLimits, KeepsLimits};
+ghost use Rattle.core_types.specs.CommandLaws.{ChangesNothing};
+ghost use Rattle.core_types.specs.Refusals.{IsRefusal};
+ghost use Rattle.core_types.specs.Limits.{IsWithinLimits};
+ghost use Rattle.string_cmds.specs.Laws.{ChangesAtMostOnce, IsKept, KeepsLimits};
 ghost use Rattle.string_cmds.specs.Rows.{other_row, row};
 
 use crate::StringCmd;

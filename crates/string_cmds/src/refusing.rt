@@ -6,7 +6,8 @@ ghost use Rattle.core_types.specs.CommandRow.{MeetArity};
 ghost use Rattle.sequences.specs.Words.{word};
 ghost use Rattle.string_cmds.specs.Commands.{command_row};
 ghost use Rattle.string_cmds.specs.Rows.{refusal};
-ghost use Rattle.string_cmds.specs.Words.{no_number, no_offset};
+ghost use Rattle.core_types.specs.Refusals.{no_number};
+ghost use Rattle.string_cmds.specs.Words.{no_offset};
 
 use crate::StringCmd;
 use crate::setting::asked_by;
@@ -19,7 +20,7 @@ pub(crate) fn refusal(cmd: StringCmd, words: &Args) -> Option<Refusal>
     ensures { result ≡ refusal cmd words.now }
 {
     match cmd {
-        StringCmd::Set => match asked_by(&words.as_slice()[3..]) {
+        StringCmd::Set => match asked_by(words.from_place(3)) {
             Some(_) => None,
             None => Some(Refusal::Syntax),
         },
@@ -41,10 +42,7 @@ fn no_number(words: &Args, place: usize) -> Option<Refusal>
     requires { place < length words.now }
     ensures { result ≡ no_number (i64_of (word place words.now)) }
 {
-    match read_i64(words.word(place)) {
-        Some(_) => None,
-        None => Some(Refusal::NotAnInteger),
-    }
+    Refusal::no_number(read_i64(words.word(place)))
 }
 
 // A word that is no number, or one below 0.

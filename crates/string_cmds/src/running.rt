@@ -12,8 +12,9 @@ use crate::counting::{add, add_new};
 use crate::reading::get_range;
 use crate::refusing::refusal;
 use crate::setting::{set, set_if_absent, sets};
-use crate::words::{number, taken_away};
+use crate::words::taken_away;
 use crate::writing::{append, append_new, set_range, set_range_new};
+use byte_text::number_in;
 use core_types::{Args, Blob, NoMemory, Outcome, Refusal, Reply};
 use std::alloc::Global;
 
@@ -105,7 +106,7 @@ fn serve(
         StringCmd::SetRange => set_range(alloc, old, words),
         StringCmd::Incr => add(alloc, old, 1, words),
         StringCmd::Decr => add(alloc, old, -1, words),
-        StringCmd::IncrBy => add(alloc, old, i128::from(number(words, 2)), words),
+        StringCmd::IncrBy => add(alloc, old, i128::from(number_in(words.word(2))), words),
         StringCmd::DecrBy => add(alloc, old, taken_away(words, 2), words),
     }
 }
@@ -126,7 +127,7 @@ fn serve_absent(alloc: Global, cmd: StringCmd, words: &Args) -> Result<Outcome<B
         StringCmd::SetRange => set_range_new(alloc, words),
         StringCmd::Incr => add_new(alloc, 1, words),
         StringCmd::Decr => add_new(alloc, -1, words),
-        StringCmd::IncrBy => add_new(alloc, i128::from(number(words, 2)), words),
+        StringCmd::IncrBy => add_new(alloc, i128::from(number_in(words.word(2))), words),
         StringCmd::DecrBy => add_new(alloc, taken_away(words, 2), words),
     }
 }

@@ -6,7 +6,7 @@ ghost use Rattle.string_cmds.specs.Setting.{condition_named, condition_of, may_s
 
 use crate::words::string_note;
 use byte_text::same_name;
-use core_types::{After, Args, Blob, Effect, NoMemory, Outcome, Reply};
+use core_types::{After, Args, Blob, Effect, NoMemory, Outcome, Reply, Words};
 use std::alloc::Global;
 
 /// When SET is to set.
@@ -22,13 +22,14 @@ pub(crate) enum Condition {
 
 /// What the words behind the value ask for, or `None` where there are two, or one that is not
 /// known.
-pub(crate) fn asked_by(rest: &[Blob]) -> Option<Condition>
-    ensures { result ≡ condition_of rest.now }
+pub(crate) fn asked_by(rest: Words<'_>) -> Option<Condition>
+    ensures { result ≡ condition_of rest.entry }
 {
-    match rest {
-        [] => Some(Condition::Always),
-        [name] => named(name.as_slice()),
-        _ => None,
+    let mut rest = rest;
+    match rest.next() {
+        None => Some(Condition::Always),
+        Some(name) if rest.is_empty() => named(name),
+        Some(_) => None,
     }
 }
 
@@ -62,7 +63,7 @@ pub(crate) fn set(alloc: Global, there: bool, words: &Args) -> Result<Outcome<Bl
         (λ o. (old : Option (List ℕ)) →
         Does o old old (set_where (condition_of (drop 3 words.now)) there words.now)) }
 {
-    if may_set(asked_by(&words.as_slice()[3..]), there) {
+    if may_set(asked_by(words.from_place(3)), there) {
         let ok = Reply::simple(alloc, b"OK")?;
         sets(alloc, ok, words)
     } else {

@@ -1,37 +1,30 @@
 //! What the words of a command say.
 
 ghost use Rattle.std.specs.Prelude.{◌≡◌, ◌<◌, ◌^◌, neg_ℤ, length, IfOk};
-ghost use Rattle.string_cmds.specs.Words.{number, offset_of, string_note};
+ghost use Rattle.byte_text.specs.Number.{number_in};
+ghost use Rattle.sequences.specs.Words.{word};
+ghost use Rattle.string_cmds.specs.Words.{offset_of, string_note};
 
-use byte_text::read_i64;
+use byte_text::number_in;
 use core_types::{Args, NoMemory, Note, NoteClass};
 use std::alloc::Global;
-
-/// The number that the word at a place writes, or 0 where it writes none.
-#[tactic(auto, unfolding(crate::specs::Words::number))]
-pub(crate) fn number(words: &Args, place: usize) -> i64
-    requires { place < length words.now }
-    ensures { result ≡ number place words.now }
-{
-    read_i64(words.word(place)).unwrap_or(0)
-}
 
 /// What is to be added where the number at a place is taken away. It may be 2^63, which no `i64`
 /// is.
 pub(crate) fn taken_away(words: &Args, place: usize) -> i128
     requires { place < length words.now }
-    ensures { result ≡ neg_ℤ (number place words.now) }
+    ensures { result ≡ neg_ℤ (number_in (word place words.now)) }
 {
-    -i128::from(number(words, place))
+    -i128::from(number_in(words.word(place)))
 }
 
 /// The number at a place as an offset: 0 where it is below 0.
 pub(crate) fn offset(words: &Args, place: usize) -> usize
     requires { place < length words.now }
     ensures short { result < 2 ^ 63 }
-    ensures offset { result ≡ offset_of (number place words.now) }
+    ensures offset { result ≡ offset_of (number_in (word place words.now)) }
 {
-    number(words, place).max(0) as usize
+    number_in(words.word(place)).max(0) as usize
 }
 
 /// An event of a string, on the key of these words.

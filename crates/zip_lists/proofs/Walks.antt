@@ -226,6 +226,20 @@ pub told-some : (bytes : List ℕ) (length_told size : ℕ) → TellsFirst bytes
     0 < size
 told-some bytes length_told size t = omega (arith, previous-some t.previous, t.size_is)
 
+-- an entry was kept, and the walk goes on behind it
+pub walked-on : (bytes : List ℕ) (old new : Walk) (length_told size : ℕ) (item : List ℕ) (more : ℕ)
+    (wrong : Option ℕ) → HasWalked bytes old → TellsFirst (drop old.place bytes) length_told size →
+    HoldsFirst (drop (old.place + size) bytes) item more →
+    wrong ≡ or_here old.wrong old.before old.place length_told →
+    new ≡ pushed old item (size + more) wrong → HasWalked bytes new × (old.place < new.place)
+walked-on bytes old new length_told size item more wrong walked tells holds first kept =
+    let next = kept ∙ ap (λ (w : Option ℕ). pushed old item (size + more) w) first in
+    let place : new.place ≡ old.place + (size + more) = ap (λ (w : Walk). w.place) kept in (
+      subst (λ (w : Walk). HasWalked bytes w) (sym next)
+          (walked-push bytes old length_told size item more walked tells holds),
+      omega (arith, place, told-some (drop old.place bytes) length_told size tells),
+    )
+
 pub told-within : (bytes : List ℕ) (length_told size : ℕ) → TellsFirst bytes length_told size →
     size ≤ length bytes
 told-within bytes length_told size t = omega (

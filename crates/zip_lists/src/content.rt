@@ -1,20 +1,20 @@
 //! The item of an entry: an encoding byte, and a string or an integer.
 
 ghost use Rattle.std.specs.Prelude.{◌≡◌, ◌≢◌, ◌≤◌, ◌<◌, ◌⊎◌, ◌∷◌, length, take, drop, slice_index};
-ghost use Rattle.std.specs.Prelude.{IfOk, IfSome, IfNone};
+ghost use Rattle.std.specs.Prelude.{IfSome, IfNone};
 ghost use Rattle.zip_lists.specs.Entry.{Width, width_mark};
 ghost use Rattle.zip_lists.specs.inner.Fronts.{IsItemFront, Announces, IsWidthOf};
 
 use crate::number::signed;
-use byte_text::{i64_text, u64_text};
-use sequences::{Blob, NoMemory};
-use std::alloc::Global;
+use byte_text::{Decimal, i64_text, u64_text};
 
 /// What stands where an encoding byte is due.
 #[derive(Debug, Drop)]
-pub(crate) enum Item {
-    /// An item, and how many bytes it takes with its encoding byte.
-    Whole(Blob, usize),
+pub(crate) enum Item<'a> {
+    /// A string, and how many bytes it takes with what announces it.
+    Text(&'a [u8], usize),
+    /// The decimal of an integer, and how many bytes that takes with its encoding byte.
+    Number(Decimal, usize),
     /// A part of an item, or nothing.
     Open,
     /// An encoding byte that no item has.
@@ -22,93 +22,91 @@ pub(crate) enum Item {
 }
 
 /// What stands at the front of the bytes, where an encoding byte is due.
-pub(crate) fn read_item(alloc: Global, bytes: &[u8]) -> Result<Item, NoMemory>
-    ensures { IfOk result (IsItemFront bytes.now) }
+pub(crate) fn read_item(bytes: &[u8]) -> Item<'_>
+    ensures { IsItemFront bytes.now result }
 {
     let Some(mark) = bytes.first().copied() else {
-        return Ok(Item::Open);
+        return Item::Open;
     };
     match mark {
-        0x00..=0x3F => take_text(alloc, bytes, 1, usize::from(mark)),
-        0x40..=0x7F => read_middle(alloc, bytes),
-        0x80..=0xBF => read_long(alloc, bytes),
-        0xF1..=0xFD => read_small(alloc, bytes, mark),
-        _ => read_integer(alloc, bytes, mark),
+        0x00..=0x3F => take_text(bytes, 1, usize::from(mark)),
+        0x40..=0x7F => read_middle(bytes),
+        0x80..=0xBF => read_long(bytes),
+        0xF1..=0xFD => read_small(bytes, mark),
+        _ => read_integer(bytes, mark),
     }
 }
 
 // A string whose length has 14 bits, the highest first.
-fn read_middle(alloc: Global, bytes: &[u8]) -> Result<Item, NoMemory>
+fn read_middle(bytes: &[u8]) -> Item<'_>
     requires some { 0 < length bytes.now }
     requires low { 0x40 ≤ slice_index bytes.now 0 }
     requires high { slice_index bytes.now 0 < 0x80 }
-    ensures { IfOk result (IsItemFront bytes.now) }
+    ensures { IsItemFront bytes.now result }
 {
     match *bytes {
         [mark, low, ..] => {
             let size = u16::from_be_bytes([mark - 0x40, low]);
-            take_text(alloc, bytes, 2, usize::from(size))
+            take_text(bytes, 2, usize::from(size))
         }
-        _ => Ok(Item::Open),
+        _ => Item::Open,
     }
 }
 
 // A string whose length has 32 bits, the highest first.
-fn read_long(alloc: Global, bytes: &[u8]) -> Result<Item, NoMemory>
+fn read_long(bytes: &[u8]) -> Item<'_>
     requires some { 0 < length bytes.now }
     requires low { 0x80 ≤ slice_index bytes.now 0 }
     requires high { slice_index bytes.now 0 < 0xC0 }
-    ensures { IfOk result (IsItemFront bytes.now) }
+    ensures { IsItemFront bytes.now result }
 {
     match *bytes {
         [_, a, b, c, d, ..] => {
             let size = u32::from_be_bytes([a, b, c, d]);
-            take_text(alloc, bytes, 5, size as usize)
+            take_text(bytes, 5, size as usize)
         }
-        _ => Ok(Item::Open),
+        _ => Item::Open,
     }
 }
 
 // A string of this size behind this many bytes that announce it.
-fn take_text(alloc: Global, bytes: &[u8], start: usize, size: usize) -> Result<Item, NoMemory>
+fn take_text(bytes: &[u8], start: usize, size: usize) -> Item<'_>
     requires within { start ≤ length bytes.now }
     requires announced { Announces (take start bytes.now) size }
-    ensures { IfOk result (IsItemFront bytes.now) }
+    ensures { IsItemFront bytes.now result }
 {
     let (_, rest) = bytes.split_at(start);
     if rest.len() < size {
-        return Ok(Item::Open);
+        return Item::Open;
     }
-    Ok(Item::Whole(Blob::from_slice(alloc, &rest[..size])?, start + size))
+    Item::Text(&rest[..size], start + size)
 }
 
 // An integer from 0 to 12, which the encoding byte is.
-fn read_small(alloc: Global, bytes: &[u8], mark: u8) -> Result<Item, NoMemory>
+fn read_small(bytes: &[u8], mark: u8) -> Item<'_>
     requires first { bytes.now ≡ mark ∷ drop 1 bytes.now }
     requires low { 0xF1 ≤ mark }
     requires high { mark ≤ 0xFD }
-    ensures { IfOk result (IsItemFront bytes.now) }
+    ensures { IsItemFront bytes.now result }
 {
-    let text = u64_text(u64::from(mark - 0xF1));
-    Ok(Item::Whole(Blob::from_slice(alloc, text.as_slice())?, 1))
+    Item::Number(u64_text(u64::from(mark - 0xF1)), 1)
 }
 
 // An integer behind its encoding byte, where there is one of that width.
-fn read_integer(alloc: Global, bytes: &[u8], mark: u8) -> Result<Item, NoMemory>
+fn read_integer(bytes: &[u8], mark: u8) -> Item<'_>
     requires first { bytes.now ≡ mark ∷ drop 1 bytes.now }
     requires low { 0xC0 ≤ mark }
     requires other { (mark < 0xF1) ⊎ (0xFD < mark) }
-    ensures { IfOk result (IsItemFront bytes.now) }
+    ensures { IsItemFront bytes.now result }
 {
     let Some(size) = integer_size(mark) else {
-        return Ok(Item::Unknown);
+        return Item::Unknown;
     };
     let (_, rest) = bytes.split_at(1);
     if rest.len() < size {
-        return Ok(Item::Open);
+        return Item::Open;
     }
-    let text = i64_text(signed(&rest[..size]));
-    Ok(Item::Whole(Blob::from_slice(alloc, text.as_slice())?, 1 + size))
+    Item::Number(i64_text(signed(&rest[..size])), 1 + size)
 }
 
 // How many bytes an integer has behind this encoding byte, or `None` where none has it.

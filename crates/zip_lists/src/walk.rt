@@ -10,7 +10,7 @@ ghost use Rattle.zip_lists.specs.inner.Walking.{HasWalked, IsStep, or_here, push
 use crate::content::{Item, read_item};
 use crate::header::{COUNT, LAST, SIZE, count, last};
 use crate::previous::{Length, read_length};
-use sequences::{Args, Blob, NoMemory, Sequence};
+use sequences::{Args, NoMemory};
 use std::alloc::Global;
 
 // The number of entries that says nothing of it.
@@ -48,7 +48,7 @@ impl Walk {
         ensures { HasWalked bytes.now result }
     {
         Walk {
-            items: Sequence::new(alloc),
+            items: Args::new(alloc),
             place: SIZE,
             last: SIZE,
             before: 0,
@@ -65,7 +65,7 @@ impl Walk {
     }
 
     /// Reads the entry that is due, where there is one.
-    pub(crate) fn step(&mut self, alloc: Global, bytes: &[u8]) -> Result<Step, NoMemory>
+    pub(crate) fn step(&mut self, bytes: &[u8]) -> Result<Step, NoMemory>
         requires walked { HasWalked bytes.now self.old }
         requires total { total_of bytes.now ≡ length bytes.now }
         ensures { IfOk result (IsStep bytes.now self.old self.new) }
@@ -74,18 +74,12 @@ impl Walk {
         match read_length(rest) {
             Length::End => Ok(Step::End),
             Length::Open => Ok(Step::Bad(self.wrong.unwrap_or(bytes.len()))),
-            Length::Whole(told, size) => self.read_entry(alloc, bytes, told, size),
+            Length::Whole(told, size) => self.read_entry(bytes, told, size),
         }
     }
 
     // Reads an entry behind the length that it tells, which takes this many bytes.
-    fn read_entry(
-        &mut self,
-        alloc: Global,
-        bytes: &[u8],
-        told: usize,
-        size: usize,
-    ) -> Result<Step, NoMemory>
+    fn read_entry(&mut self, bytes: &[u8], told: usize, size: usize) -> Result<Step, NoMemory>
         requires walked { HasWalked bytes.now self.old }
         requires total { total_of bytes.now ≡ length bytes.now }
         requires tells { TellsFirst (drop self.old.place bytes.now) told size }
@@ -94,11 +88,15 @@ impl Walk {
         let wrong = self.first_wrong(told);
         let place = self.place + size;
         let (_, rest) = bytes.split_at(place);
-        match read_item(alloc, rest)? {
+        match read_item(rest) {
             Item::Open => Ok(Step::Bad(wrong.unwrap_or(bytes.len()))),
             Item::Unknown => Ok(Step::Bad(wrong.unwrap_or(place))),
-            Item::Whole(item, more) => {
-                self.push(item, size + more, wrong)?;
+            Item::Text(text, more) => {
+                self.push(text, size + more, wrong)?;
+                Ok(Step::Onward)
+            }
+            Item::Number(decimal, more) => {
+                self.push(decimal.as_slice(), size + more, wrong)?;
                 Ok(Step::Onward)
             }
         }
@@ -116,9 +114,9 @@ impl Walk {
     }
 
     // Keeps an entry of this many bytes.
-    fn push(&mut self, item: Blob, size: usize, wrong: Option<usize>) -> Result<(), NoMemory>
+    fn push(&mut self, item: &[u8], size: usize, wrong: Option<usize>) -> Result<(), NoMemory>
         requires { self.old.place + size < 2 ^ 64 }
-        ensures { OnOk result (self.new ≡ pushed self.old item size wrong) }
+        ensures { OnOk result (self.new ≡ pushed self.old item.now size wrong) }
     {
         self.items.push(item)?;
         self.last = self.place;

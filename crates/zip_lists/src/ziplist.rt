@@ -26,7 +26,7 @@ pub fn items(alloc: Global, bytes: &[u8]) -> Result<Args, ZipStop>
     }
     let mut walk = Walk::new(alloc, bytes);
     loop {
-        match walk.step(alloc, bytes)? {
+        match walk.step(bytes)? {
             Step::Onward => {}
             Step::End => break,
             Step::Bad(place) => return Err(ZipStop::BadZip(place as u64)),

@@ -11,12 +11,12 @@ abbrev pub seen : Reading → Stream
 seen r = record {
   passed = r.passed;
   rest =
-      begun r.stage r.count r.words.items ++ (r.word ++ r.input);
+      begun r.stage r.count r.draft.words ++ (r.draft.tail ++ r.input);
 }
 
 -- of a word of this length all came, or nothing is left of the input
 abbrev pub IsGathered : ℕ → Reading → Type 0
-IsGathered len r = length r.word < len → r.input ≡ []
+IsGathered len r = length r.draft.tail < len → r.input ≡ []
 
 -- an answer is so, and what a step passed are empty requests, or is what it took
 abbrev pub Steps : Reading → Reading → Step → Type 0

@@ -56,7 +56,8 @@ pub record IsUnknownFront (bytes : List ℕ) : Type 0 where
 
 -- what was found at the front, where an encoding byte is due, is so
 abbrev pub IsItemFront : List ℕ → Item → Type 0
-IsItemFront bytes (item.Whole item size) = HoldsFirst bytes item size
+IsItemFront bytes (item.Text text size) = HoldsFirst bytes text.now size
+IsItemFront bytes (item.Number decimal size) = HoldsFirst bytes decimal size
 IsItemFront bytes item.Open = IsBegunItem bytes
 IsItemFront bytes item.Unknown = IsUnknownFront bytes
 

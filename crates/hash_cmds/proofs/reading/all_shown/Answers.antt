@@ -3,7 +3,8 @@ use Rattle.std.proofs.Common.{◌<◌, [], length, take, get_or, ap, sym, ◌∙
 use Rattle.std.specs.List.{flat_map}
 use Rattle.std.proofs.lemmas.List.{flat_map_more, take_more}
 use Rattle.std.proofs.lemmas.Option.{slice_get-get_or}
-use Rattle.hash_cmds.specs.Reading.{field_shown, several}
+use Rattle.core_types.specs.Answers.{several}
+use Rattle.hash_cmds.specs.Reading.{field_shown}
 use Rattle.hash_cmds.proofs.reading.all_shown.Goals as goal
 
 pub loop-place-preserved : goal.loop-place-preserved

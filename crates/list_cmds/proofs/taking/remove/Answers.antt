@@ -2,6 +2,7 @@
 use Rattle.std.proofs.Common.{◌≡◌, ◌-◌, ◌∙◌, ℕ, Bool, true, false, List, [], length, codes, sym, ap, subst, Some, arith}
 use Rattle.std.specs.Prelude.{◌==◌}
 use Rattle.std.proofs.lemmas.Bool.Decides.{nat_tests}
+use Rattle.byte_text.specs.Number.{number_in}
 use Rattle.core_types.specs.Done.{Does}
 use Rattle.sequences.specs.Words.{word}
 use Rattle.core_types.specs.declared.outcome.After.TheVariants as after
@@ -9,7 +10,7 @@ use Rattle.core_types.specs.declared.outcome.Outcome.{Outcome}
 use Rattle.core_types.specs.declared.reply.Reply.{Reply}
 use Rattle.core_types.specs.declared.reply.Reply.TheVariants as reply
 use Rattle.list_cmds.specs.Taking.{leaves_of, without}
-use Rattle.list_cmds.specs.Words.{counted, number}
+use Rattle.list_cmds.specs.Words.{counted}
 use Rattle.list_cmds.proofs.Equals.{same_without}
 use Rattle.list_cmds.proofs.Numbers.{as_number}
 use Rattle.list_cmds.proofs.Outcomes.{none_done, removed_done, taken_outcome}
@@ -29,11 +30,11 @@ returns-then-count-eq0-clause-does c =
     let words = c.args.words.now in
     let new = c.remove_equal-count.new.list in
     let item = word 3 words in
-    let left : new ≡ without (number 2 words) item held =
-    c.remove_equal-count.ensures.left ∙ ap (λ n. without n c.word.result.now held) (as_number c.number.result 2 words c.number.ensures)
-    ∙ ap (λ w. without (number 2 words) w held) c.word.ensures.word in
-    let size : length (without (number 2 words) item held) ≡ length held = omega (arith, ap length left, c.remove_equal-count.ensures.count, c.if-count-eq0.true) in
-    let same = left ∙ same_without (number 2 words) item held size in
+    let left : new ≡ without (number_in (word 2 words)) item held =
+    c.remove_equal-count.ensures.left ∙ ap (λ n. without n c.word-2.result.now held) (as_number c.number_in.result c.word.result.now (word 2 words) c.number_in.ensures.value c.word.ensures.word)
+    ∙ ap (λ w. without (number_in (word 2 words)) w held) c.word-2.ensures.word in
+    let size : length (without (number_in (word 2 words)) item held) ≡ length held = omega (arith, ap length left, c.remove_equal-count.ensures.count, c.if-count-eq0.true) in
+    let same = left ∙ same_without (number_in (word 2 words)) item held size in
     subst (λ (l : List (List ℕ)). Does c.answer.result (Some held) (Some new) (leaves_of held l words)) left
     (none_done c.answer.result held new words (c.answer.ensures.answers ∙ ap none_of c.counted.ensures) same)
 
@@ -43,9 +44,9 @@ returns-clause-does c =
     let words = c.args.words.now in
     let new = c.remove_equal-count.new.list in
     let item = word 3 words in
-    let left : new ≡ without (number 2 words) item held =
-    c.remove_equal-count.ensures.left ∙ ap (λ n. without n c.word.result.now held) (as_number c.number.result 2 words c.number.ensures)
-    ∙ ap (λ w. without (number 2 words) w held) c.word.ensures.word in
+    let left : new ≡ without (number_in (word 2 words)) item held =
+    c.remove_equal-count.ensures.left ∙ ap (λ n. without n c.word-2.result.now held) (as_number c.number_in.result c.word.result.now (word 2 words) c.number_in.ensures.value c.word.ensures.word)
+    ∙ ap (λ w. without (number_in (word 2 words)) w held) c.word-2.ensures.word in
     let outcome = c.if-is_empty.outcome in
     let said = c.counted-2.result in
     let count : c.remove_equal-count.result ≡ length held - length new = omega (arith, c.remove_equal-count.ensures.count) in

@@ -11,7 +11,7 @@ returns-in-Missing c =
     let found = rw c.split_at.ensures.back at c.in-Missing.ensures in
     JudgesWord-missing c.args.bytes.now c.args.start c.args.size c.in-Missing.place c.requires.within c.requires.small c.requires.parts found
 
-pub returns-in_ok-word-in-There : goal.returns-in_ok-word-in-There
-returns-in_ok-word-in-There c =
+pub returns-in-There : goal.returns-in-There
+returns-in-There c =
     let found = rw c.split_at.ensures.back at c.in-There.ensures in
-    JudgesWord-whole c.args.bytes.now c.in_ok-word-in-There.word c.args.start c.args.size c.requires.within c.requires.small c.requires.parts found (rw (← c.split_at.ensures.back) c.in_ok-word-in-There.ensures.bytes)
+    JudgesWord-whole c.args.bytes.now c.args.start c.args.size c.requires.within c.requires.small c.requires.parts found

@@ -1,3 +1,4 @@
+-- Serves clause same of duplicate_items.
 use Rattle.std.proofs.Common.{◌≡◌, take}
 use Rattle.sequences.proofs.sequence.duplicate_items.Given as goal
 

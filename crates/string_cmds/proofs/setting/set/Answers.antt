@@ -1,6 +1,5 @@
 -- Serves the clause of set.
-use Rattle.std.proofs.Common.{◌≡◌, ◌∙◌, ◌-◌, sym, ap, subst, length, take, drop, true, List, ℕ, Option, IfOk}
-use Rattle.std.proofs.lemmas.List.{take_rest}
+use Rattle.std.proofs.Common.{◌≡◌, ◌∙◌, sym, ap, subst, drop, true, List, ℕ, Option, IfOk}
 use Rattle.core_types.specs.Done.{Does, Done}
 use Rattle.string_cmds.specs.declared.setting.Condition.{Condition}
 use Rattle.string_cmds.specs.Setting.{condition_of, may_set, set_where, sets}
@@ -12,8 +11,7 @@ returns-in_ok-ok c =
     let words = c.args.words.now in
     let asked = condition_of (drop 3 words) in
     let read : c.asked_by.result ≡ asked =
-    c.asked_by.ensures ∙ ap (λ (s : List (List ℕ)). condition_of (take (length s - 3) (drop 3 s))) c.as_slice.ensures.items
-    ∙ ap condition_of (take_rest words 3) in
+    c.asked_by.ensures ∙ ap condition_of c.from_place.ensures.words in
     let may : may_set asked c.args.there ≡ true =
     ap (λ (a : Option Condition). may_set a c.args.there) (sym read) ∙ sym c.may_set.ensures ∙ c.if-may_set.true in
     let same : sets c.in_ok-ok.ok words ≡ set_where asked c.args.there words =

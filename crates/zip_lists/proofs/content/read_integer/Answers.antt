@@ -14,9 +14,9 @@ returns-then-rest-size c = integer_open c.args.bytes.now c.args.mark c.in-Some.s
 pub returns : goal.returns
 returns c =
     let fits : FitsSigned w64 c.signed.result = search rules in
-    integer_first c.args.bytes.now c.in_ok-from_slice.field-0 c.args.mark c.in-Some.size
+    integer_first c.args.bytes.now c.i64_text.result c.args.mark c.in-Some.size
     c.requires.first c.in-Some.ensures.some
     (omega (arith, ap (λ (t : List ℕ). length t) c.split_at.ensures.back))
-    (c.in_ok-from_slice.ensures.bytes ∙ c.as_slice.ensures.bytes ∙ c.i64_text-text.ensures.text
+    (c.i64_text.ensures.text
     ∙ ap signed_decimal (to_z-of_z w64 c.signed.result fits ∙ c.signed.ensures
     ∙ ap (λ (t : List ℕ). signed (take c.in-Some.size t)) c.split_at.ensures.back))

@@ -5,7 +5,5 @@ use Rattle.zip_lists.proofs.content.read_small.Goals as goal
 
 pub returns : goal.returns
 returns c =
-    small_first c.args.bytes.now c.in_ok-from_slice.field-0 c.args.mark c.requires.first
-    c.requires.low c.requires.high
-    (c.in_ok-from_slice.ensures.bytes ∙ c.as_slice.ensures.bytes ∙ c.u64_text-text.ensures.text
-    ∙ ap (λ (n : ℕ). decimal n) c.from.ensures)
+    small_first c.args.bytes.now c.u64_text.result c.args.mark c.requires.first c.requires.low
+    c.requires.high (c.u64_text.ensures.text ∙ ap (λ (n : ℕ). decimal n) c.from.ensures)

@@ -1,4 +1,4 @@
-use Rattle.std.proofs.Common.{ℕ, List, length, take, ap, ◌∙◌, arith}
+use Rattle.std.proofs.Common.{ℕ, List, length, take, ap, arith}
 use Rattle.zip_lists.proofs.ItemFronts.{text_open, text_first}
 use Rattle.zip_lists.proofs.content.take_text.Goals as goal
 
@@ -8,8 +8,6 @@ returns-then-rest-size c = text_open c.args.bytes.now c.args.start c.args.size c
 
 pub returns : goal.returns
 returns c =
-    text_first c.args.bytes.now c.in_ok-from_slice.field-0 c.args.start c.args.size
-    c.requires.within c.requires.announced
+    text_first c.args.bytes.now _ c.args.start c.args.size c.requires.within c.requires.announced
     (omega (arith, ap (λ (t : List ℕ). length t) c.split_at.ensures.back))
-    (c.in_ok-from_slice.ensures.bytes ∙ ap (λ (t : List ℕ). take c.args.size t)
-    c.split_at.ensures.back)
+    (ap (λ (t : List ℕ). take c.args.size t) c.split_at.ensures.back)

@@ -3,7 +3,7 @@ use Rattle.core_types.proofs.list_body.ListBody.len.Goals as goal
 
 pub returns-clause-bounded : goal.returns-clause-bounded
 returns-clause-bounded c =
-    let items = c.self.inside.items in
+    let items = c.self.inside.items.value in
     let long = items.ok.0 in
     let room = items.small.0 in
     let fits = items.small.1 in

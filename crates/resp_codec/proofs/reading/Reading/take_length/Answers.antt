@@ -12,5 +12,5 @@ refuse-requires-clause-bad c =
     let due = rw c.requires.stage at s.due in
     let read_is = rw c.requires.stage at s.read_is in
     rw (c.requires.stage, due.1)
-    (bad_length (header 42 s.count ++ flat_map bulk s.words.items) s.input c.args.end (s.read + 0) (IsBegun-words s.count s.words.items due.0) c.requires.mark c.requires.line
+    (bad_length (header 42 s.count ++ flat_map bulk s.draft.words) s.input c.args.end (s.read + 0) (IsBegun-words s.count s.draft.words due.0) c.requires.mark c.requires.line
     (λ n small e. c.in_default.ensures.none n small (take_rest c.front.result.now 1 ∙ ap (λ bytes. drop 1 bytes) c.front.ensures.front ∙ e)) (omega arith))

@@ -1,0 +1,2 @@
+-- What the clauses of inner functions cite.
+pub mod Packing
