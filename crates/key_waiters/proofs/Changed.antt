@@ -1,5 +1,6 @@
 -- The lines after a change in the tree. It serves the clauses of `Lines`.
-use Rattle.std.proofs.Common.{◌≡◌, ℕ, ◌==◌, Bool, true, false, cond, List, Option, None, Some, is_some, IsSome, unwrap_or, refl, sym, ap, ◌∙◌}
+use Rattle.std.proofs.Common.{◌≡◌, ℕ, ◌==◌, Bool, true, false, cond, List, Option, None, Some}
+use Rattle.std.proofs.Common.{is_some, IsSome, unwrap_or, refl, sym, ap, ◌∙◌}
 use Rattle.std.specs.Global.{Vec}
 use Rattle.std.specs.Ordering.{nat_cmp, eq_by_cmp}
 use Rattle.std.specs.Cmp.Lexicographic.{slice_cmp, nat_list_cmp_total}
@@ -18,7 +19,8 @@ Tree = BTreeMap (Vec ℕ) LineSet
 
 -- the lines of a tree
 abbrev pub lines_of : Tree → LinesMap
-lines_of tree = from_entries (by_read nat_list_cmp_total exact_bytes (λ (k : Vec ℕ). k.items) tree.entries)
+lines_of tree = from_entries
+    (by_read nat_list_cmp_total exact_bytes (λ (k : Vec ℕ). k.items) tree.entries)
 
 pub line_at : (tree : Tree) (key : List ℕ) → finite.get (lines_of tree) key ≡ line_in tree key
 line_at tree key = get-by_read nat_list_cmp_total exact_bytes (λ k. k.items) tree.entries key
@@ -27,47 +29,73 @@ line_at tree key = get-by_read nat_list_cmp_total exact_bytes (λ k. k.items) tr
 abbrev pub changed : LinesMap → List ℕ → (LineSet → LineSet) → Option LineSet → LinesMap
 changed lines key change o = option_map_or (λ s. finite.insert lines key (change s)) o lines
 
-pub rewritten : (m n : Tree) (key : List ℕ) (change : LineSet → LineSet) → Rewrites m n key change → lines_of n ≡ changed (lines_of m) key change (finite.get (lines_of m) key)
+pub rewritten : (m n : Tree) (key : List ℕ) (change : LineSet → LineSet)
+    → Rewrites m n key change
+    → lines_of n ≡ changed (lines_of m) key change (finite.get (lines_of m) key)
 rewritten m n key change writes =
-    elim (line_in m key) as (λ o. MatchOption o (n.entries ≡ m.entries) (λ s. UpdatesBy (λ a b. slice_cmp nat_cmp a.items b.items) (λ k. slice_cmp nat_cmp key k.items) m n (Some (change s))) → lines_of n ≡ changed (lines_of m) key change o) [
-      | None ↦ λ same. ap (λ es. from_entries (by_read nat_list_cmp_total exact_bytes (λ (k : Vec ℕ). k.items) es)) same
-      | Some s ↦ λ updates. from_entries-put nat_list_cmp_total exact_bytes (λ k. k.items) m n key (change s) updates
+    elim (line_in m key) as (λ o. MatchOption o (n.entries ≡ m.entries)
+    (λ s. UpdatesBy (λ a b. slice_cmp nat_cmp a.items b.items)
+    (λ k. slice_cmp nat_cmp key k.items) m n (Some (change s)))
+    → lines_of n ≡ changed (lines_of m) key change o) [
+      | None ↦ λ same. ap
+          (λ es. from_entries
+          (by_read nat_list_cmp_total exact_bytes (λ (k : Vec ℕ). k.items) es)) same
+      | Some s ↦ λ updates. from_entries-put nat_list_cmp_total exact_bytes
+          (λ k. k.items) m n key (change s) updates
     ] writes
     ∙ ap (changed (lines_of m) key change) (sym (line_at m key))
 
-pub placed : (lines : LinesMap) (key : List ℕ) (t : ℕ) (o : Option LineSet) → IsSome o → changed lines key (λ s. set.insert s t) o ≡ finite.insert lines key (set.insert (unwrap_or o set.empty) t)
+pub placed : (lines : LinesMap) (key : List ℕ) (t : ℕ) (o : Option LineSet) → IsSome o
+    → changed lines key (λ s. set.insert s t) o ≡ finite.insert lines key
+    (set.insert (unwrap_or o set.empty) t)
 placed lines key t None there = absurd (false≢true there)
 placed lines key t (Some s) there = refl
 
-pub reinserted : (lines : LinesMap) (key : List ℕ) (o : Option LineSet) → finite.get lines key ≡ o → changed lines key (λ s. s) o ≡ lines
+pub reinserted : (lines : LinesMap) (key : List ℕ) (o : Option LineSet)
+    → finite.get lines key ≡ o → changed lines key (λ s. s) o ≡ lines
 reinserted lines key None is = refl
-reinserted lines key (Some s) is = finite.same_map nat_list_cmp_total exact_bytes _ _ (λ q. finite.get-insert nat_list_cmp_total lines key s q ∙ same q (eq_by_cmp (slice_cmp nat_cmp) q key) refl)
+reinserted lines key (Some s) is =
+    finite.same_map nat_list_cmp_total exact_bytes _ _
+    (λ q. finite.get-insert nat_list_cmp_total lines key s q
+    ∙ same q (eq_by_cmp (slice_cmp nat_cmp) q key) refl)
   where
-    same : (q : List ℕ) (b : Bool) → eq_by_cmp (slice_cmp nat_cmp) q key ≡ b → cond b (Some s) (finite.get lines q) ≡ finite.get lines q
-    same q true here = sym (ap (finite.get lines) (exact_bytes q key (equal (slice_cmp nat_cmp q key) here)) ∙ is)
+    same : (q : List ℕ) (b : Bool) → eq_by_cmp (slice_cmp nat_cmp) q key ≡ b
+        → cond b (Some s) (finite.get lines q) ≡ finite.get lines q
+    same q true here = sym
+        (ap (finite.get lines) (exact_bytes q key (equal (slice_cmp nat_cmp q key) here)) ∙ is)
     same q false here = refl
 
 abbrev empties : ℕ → LineSet → Bool
 empties t s = set.len (set.remove s t) == 0
 
-pub emptied : (lines : LinesMap) (key : List ℕ) (t : ℕ) (o : Option LineSet) → option_map_or (empties t) o false ≡ true
-    → finite.remove (changed lines key (λ s. set.remove s t) o) key ≡ option_map_or (λ s. cond (empties t s) (finite.remove lines key) (finite.insert lines key (set.remove s t))) o lines
+pub emptied : (lines : LinesMap) (key : List ℕ) (t : ℕ) (o : Option LineSet)
+    → option_map_or (empties t) o false ≡ true
+    → finite.remove (changed lines key (λ s. set.remove s t) o) key ≡ option_map_or
+    (λ s. cond (empties t s) (finite.remove lines key)
+    (finite.insert lines key (set.remove s t))) o lines
 emptied lines key t None is = absurd (false≢true is)
 emptied lines key t (Some s) is =
     finite.same_map nat_list_cmp_total exact_bytes _ _ (λ q.
     finite.get-remove nat_list_cmp_total (finite.insert lines key (set.remove s t)) key q
-    ∙ ap (cond (eq_by_cmp (slice_cmp nat_cmp) q key) None) (finite.get-insert nat_list_cmp_total lines key (set.remove s t) q)
-    ∙ once (eq_by_cmp (slice_cmp nat_cmp) q key) (finite.get lines q) ∙ sym (finite.get-remove nat_list_cmp_total lines key q))
+    ∙ ap (cond (eq_by_cmp (slice_cmp nat_cmp) q key) None)
+    (finite.get-insert nat_list_cmp_total lines key (set.remove s t) q)
+    ∙ once (eq_by_cmp (slice_cmp nat_cmp) q key) (finite.get lines q)
+    ∙ sym (finite.get-remove nat_list_cmp_total lines key q))
     ∙ sym (ap (λ b. cond b (finite.remove lines key) (finite.insert lines key (set.remove s t))) is)
   where
-    once : (b : Bool) (o : Option LineSet) → cond b None (cond b (Some (set.remove s t)) o) ≡ cond b None o
+    once : (b : Bool) (o : Option LineSet)
+        → cond b None (cond b (Some (set.remove s t)) o) ≡ cond b None o
     once true o = refl
     once false o = refl
 
-pub left : (lines : LinesMap) (key : List ℕ) (t : ℕ) (o : Option LineSet) → option_map_or (empties t) o false ≡ false
-    → changed lines key (λ s. set.remove s t) o ≡ option_map_or (λ s. cond (empties t s) (finite.remove lines key) (finite.insert lines key (set.remove s t))) o lines
+pub left : (lines : LinesMap) (key : List ℕ) (t : ℕ) (o : Option LineSet)
+    → option_map_or (empties t) o false ≡ false
+    → changed lines key (λ s. set.remove s t) o ≡ option_map_or
+    (λ s. cond (empties t s) (finite.remove lines key)
+    (finite.insert lines key (set.remove s t))) o lines
 left lines key t None is = refl
-left lines key t (Some s) is = sym (ap (λ b. cond b (finite.remove lines key) (finite.insert lines key (set.remove s t))) is)
+left lines key t (Some s) is =
+    sym (ap (λ b. cond b (finite.remove lines key) (finite.insert lines key (set.remove s t))) is)
 
 pub is_none : (o : Option LineSet) → is_some o ≡ false → o ≡ None
 is_none None is = refl

@@ -7,7 +7,8 @@ ghost use Rattle.std.specs.Cmp.Lexicographic.{slice_cmp};
 ghost use Rattle.std.specs.BTreeMap.{UpdatesBy};
 ghost use Rattle.std.specs.FinMap as map;
 ghost use Rattle.std.specs.FinSet as set;
-ghost use Rattle.key_waiters.specs.inner.Lines.{with_place, without_place, holds, line_in, Rewrites};
+ghost use Rattle.key_waiters.specs.inner.Lines.{with_place, without_place, holds, line_in};
+ghost use Rattle.key_waiters.specs.inner.Lines.{Rewrites};
 ghost use Rattle.key_waiters.specs.inner.Places.{IsFirstOf};
 
 use crate::line::Line;
@@ -91,8 +92,8 @@ fn add(lines: &mut BTreeMap<Vec<u8>, Line>, key: &[u8], ticket: u64) -> Result<(
 // Takes a ticket out of the line of a key, and says whether the line is there and empty now.
 fn take(lines: &mut BTreeMap<Vec<u8>, Line>, key: &[u8], ticket: u64) -> bool
     ensures taken { Rewrites lines.old lines.new key.now (λ s. set.remove s ticket) }
-    ensures empty { result
-        ≡ option_map_or (λ s. set.len (set.remove s ticket) == 0) (line_in lines.old key.now) false }
+    ensures empty { result ≡ option_map_or (λ s. set.len (set.remove s ticket) == 0)
+        (line_in lines.old key.now) false }
 {
     match lines.get_mut(key) {
         Some(line) => {

@@ -1,7 +1,7 @@
-//! Tests of the crates that stand by themselves, over their public calls: tickets, the registry of
-//! commands, sources, sinks and clocks, and the forms of a dump. Rows are from other programs and
-//! from the descriptions of the forms; and calls which take memory answer with it where there is
-//! enough.
+//! Tests of the crates that stand by themselves, over their public calls: tickets and what waits on
+//! keys, timers, values that wait to be freed, the registry of commands, sources, sinks and clocks,
+//! and the forms of a dump. Rows are from other programs and from the descriptions of the forms;
+//! and calls which take memory answer with it where there is enough.
 #![tactic(auto)]
 
 #[cfg(test)]

@@ -2,7 +2,8 @@
 use Rattle.std.specs.Prelude.{◌≡◌, ℕ, ◌<◌, ◌^◌, ◌-◌, Result, Ok, Err}
 use Rattle.std.specs.FinMap as finite
 use Rattle.module_timers.specs.declared.timer_fault.TimerFault.{TimerFault}
-use Rattle.module_timers.specs.declared.timer_fault.TimerFault.TheVariants.{Full, NumbersSpent, Memory}
+use Rattle.module_timers.specs.declared.timer_fault.TimerFault.TheVariants.{Full, NumbersSpent}
+use Rattle.module_timers.specs.declared.timer_fault.TimerFault.TheVariants.{Memory}
 use Rattle.module_timers.specs.TimerTable.{TimerTable}
 
 -- the most timers that are set at one time

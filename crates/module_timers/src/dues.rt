@@ -20,8 +20,8 @@ pub(crate) struct Due {
     pub timer: u64,
 }
 
-/// The deadlines of the timers that are set. `insert` and `remove` are O(log n); only `insert` takes
-/// memory.
+/// The deadlines of the timers that are set. `insert` and `remove` are O(log n); only `insert`
+/// takes memory.
 #[derive(Debug, Drop)]
 pub(crate) struct Dues {
     dues: BTreeSet<Due>,

@@ -7,9 +7,9 @@
 //! of several the one of the least number. It stands on `sequences` alone.
 //!
 //! `start`, `stop` and `take` are O(log n) in the number of timers. So is `due` where the first
-//! timer by deadline is below the number that is asked for, as it is for whoever asks for those that
-//! were set before a moment; else it looks at those that come before in order. `held` is linear.
-//! Only `start` and `held` take memory.
+//! timer by deadline is below the number that is asked for, as it is for whoever asks for those
+//! that were set before a moment; else it looks at those that come before in order. `held` is
+//! linear. Only `start` and `held` take memory.
 #![tactic(auto)]
 
 mod dues;

@@ -4,7 +4,8 @@ ghost use Rattle.std.specs.Prelude.{◌≡◌, ℕ, ◌<◌, IsSome, IfOk, OnOk,
 ghost use Rattle.std.specs.Option.{option_map};
 ghost use Rattle.std.specs.FinMap as map;
 ghost use Rattle.module_timers.specs.Outcomes.{StartCause};
-ghost use Rattle.module_timers.specs.TimerTable.{no_timers, timer_at, is_of, started, stopped, without, due_at};
+ghost use Rattle.module_timers.specs.TimerTable.{no_timers, timer_at, is_of, started, stopped};
+ghost use Rattle.module_timers.specs.TimerTable.{without, due_at};
 
 use crate::dues::{Due, Dues};
 use crate::table::Table;

@@ -1,6 +1,7 @@
 //! The queue.
 
-ghost use Rattle.std.specs.Prelude.{◌≡◌, ◌++◌, [], ◌∷◌, length, drop, slice_get, IfErr, OnOk, OnErr};
+ghost use Rattle.std.specs.Prelude.{◌≡◌, ◌++◌, [], ◌∷◌, length, drop, slice_get, IfErr, OnOk};
+ghost use Rattle.std.specs.Prelude.{OnErr};
 
 use std::alloc::Global;
 use std::collections::VecDeque;

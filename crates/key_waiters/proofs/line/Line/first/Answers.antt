@@ -8,7 +8,9 @@ use Rattle.key_waiters.proofs.line.Line.first.Goals as goal
 
 pub returns : goal.returns
 returns c = record {
-  first = subst (λ (s : LineSet). IsFirstOf (set.contains s) c.args.above c.copied.result) c.self.view_is
+  first = subst (λ (s : LineSet). IsFirstOf (set.contains s) c.args.above c.copied.result)
+      c.self.view_is
       (subst (IsFirstOf _ c.args.above) (sym c.copied.ensures)
-      (first_above c.self.inside.tickets c.args.above c.range.result c.next.new.self c.next.result (c.range.ensures.in_range tt) c.next.ensures.steps));
+      (first_above c.self.inside.tickets c.args.above c.range.result c.next.new.self
+      c.next.result (c.range.ensures.in_range tt) c.next.ensures.steps));
 }

@@ -6,4 +6,8 @@ use Rattle.key_waiters.proofs.line.Line.is_empty.Goals as goal
 
 pub returns : goal.returns
 returns c =
-    record { empty = ap (λ n. n == 0) (c.len.ensures.len ∙ sym (len-sorted c.self.inside.tickets.keys c.len.ensures.ordered) ∙ ap set.len c.self.view_is) }
+    record {
+      empty = ap (λ n. n == 0)
+          (c.len.ensures.len ∙ sym (len-sorted c.self.inside.tickets.keys c.len.ensures.ordered)
+          ∙ ap set.len c.self.view_is);
+    }

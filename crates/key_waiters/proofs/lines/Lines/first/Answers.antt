@@ -13,14 +13,21 @@ pub returns-in-Some : goal.returns-in-Some
 returns-in-Some c =
     let key = c.args.key.now in
     let at : map.get c.args.self.now key ≡ Some c.in-Some.line.now =
-    ap (λ (m : LinesMap). map.get m key) (sym c.self.view_is) ∙ get-by_read nat_list_cmp_total exact_bytes (λ k. k.items) c.self.inside.lines.entries key ∙ sym c.get.ensures.value
+    ap (λ (m : LinesMap). map.get m key) (sym c.self.view_is)
+    ∙ get-by_read nat_list_cmp_total exact_bytes
+    (λ k. k.items) c.self.inside.lines.entries key ∙ sym c.get.ensures.value
     ∙ ap option_copied c.in-Some.is in
-    record { first = first_in c.args.self.now key c.args.above c.in-Some.line.now c.first.result at c.first.ensures.first }
+    record {
+      first = first_in c.args.self.now key c.args.above c.in-Some.line.now c.first.result
+          at c.first.ensures.first;
+    }
 
 pub returns-in-None : goal.returns-in-None
 returns-in-None c =
     let key = c.args.key.now in
     let none : map.get c.args.self.now key ≡ None =
-    ap (λ (m : LinesMap). map.get m key) (sym c.self.view_is) ∙ get-by_read nat_list_cmp_total exact_bytes (λ k. k.items) c.self.inside.lines.entries key ∙ sym c.get.ensures.value
+    ap (λ (m : LinesMap). map.get m key) (sym c.self.view_is)
+    ∙ get-by_read nat_list_cmp_total exact_bytes
+    (λ k. k.items) c.self.inside.lines.entries key ∙ sym c.get.ensures.value
     ∙ ap option_copied c.in-None.is in
     record { first = first_of_none c.args.self.now key c.args.above none }

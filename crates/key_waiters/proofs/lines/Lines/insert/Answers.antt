@@ -14,9 +14,11 @@ pub returns-then-contains_key-clause-ok : goal.returns-then-contains_key-clause-
 returns-then-contains_key-clause-ok c =
     let tree = c.self.inside.lines in
     let key = c.args.key.now in
-    let there : IsSome (finite.get (lines_of tree) key) = ap is_some (line_at tree key) ∙ sym c.contains_key.ensures ∙ c.if-contains_key.true in
+    let there : IsSome (finite.get (lines_of tree) key) = ap is_some (line_at tree key)
+    ∙ sym c.contains_key.ensures ∙ c.if-contains_key.true in
     on_ok_weaker c.add.result
-    (λ writes. rewritten tree c.add.new.lines key (λ s. set.insert s c.args.ticket) writes ∙ placed (lines_of tree) key c.args.ticket (finite.get (lines_of tree) key) there
+    (λ writes. rewritten tree c.add.new.lines key (λ s. set.insert s c.args.ticket) writes
+    ∙ placed (lines_of tree) key c.args.ticket (finite.get (lines_of tree) key) there
     ∙ ap (λ (m : LinesMap). with_place m key c.args.ticket) c.self.view_is)
     c.add.ensures.ok
 
@@ -25,17 +27,26 @@ returns-then-contains_key-clause-err c =
     let tree = c.self.inside.lines in
     let key = c.args.key.now in
     on_err_weaker c.add.result
-    (λ writes. rewritten tree c.add.new.lines key (λ s. s) writes ∙ reinserted (lines_of tree) key (finite.get (lines_of tree) key) refl ∙ c.self.view_is)
+    (λ writes. rewritten tree c.add.new.lines key (λ s. s) writes
+    ∙ reinserted (lines_of tree) key (finite.get (lines_of tree) key) refl ∙ c.self.view_is)
     c.add.ensures.err
 
 pub returns-clause-ok : goal.returns-clause-ok
 returns-clause-ok c =
     let tree = c.self.inside.lines in
     let key = c.args.key.now in
-    let none : finite.get (lines_of tree) key ≡ None = is_none (finite.get (lines_of tree) key) (ap is_some (line_at tree key) ∙ sym c.contains_key.ensures ∙ c.if-contains_key.false) in
-    let line : c.insert.new.self ≡ set.insert set.empty c.args.ticket = c.in_ok-insert.ensures.ok ∙ ap (λ (s : LineSet). set.insert s c.args.ticket) c.new-line.ensures.empty in
-    from_entries-put nat_list_cmp_total exact_bytes (λ k. k.items) tree c.insert-2.new.self c.in_ok-name.name.items c.insert.new.self c.in_ok-insert-2.ensures.updates
+    let none : finite.get (lines_of tree) key ≡ None =
+    is_none (finite.get (lines_of tree) key)
+    (ap is_some (line_at tree key) ∙ sym c.contains_key.ensures
+    ∙ c.if-contains_key.false) in
+    let line : c.insert.new.self ≡ set.insert set.empty c.args.ticket =
+    c.in_ok-insert.ensures.ok
+    ∙ ap (λ (s : LineSet). set.insert s c.args.ticket) c.new-line.ensures.empty in
+    from_entries-put nat_list_cmp_total exact_bytes
+    (λ k. k.items) tree c.insert-2.new.self c.in_ok-name.name.items c.insert.new.self
+    c.in_ok-insert-2.ensures.updates
     ∙ ap (λ k. finite.insert (lines_of tree) k c.insert.new.self) c.in_ok-name.ensures.items
     ∙ ap (finite.insert (lines_of tree) key) line
-    ∙ ap (λ o. finite.insert (lines_of tree) key (set.insert (unwrap_or o set.empty) c.args.ticket)) (sym none)
+    ∙ ap (λ o. finite.insert (lines_of tree) key
+    (set.insert (unwrap_or o set.empty) c.args.ticket)) (sym none)
     ∙ ap (λ (m : LinesMap). with_place m key c.args.ticket) c.self.view_is

@@ -15,11 +15,15 @@ returns-then-take c =
     let tree = c.self.inside.lines in
     let key = c.args.key.now in
     let t = c.args.ticket in
-    let is : option_map_or (λ (s : LineSet). set.len (set.remove s t) == 0) (finite.get (lines_of tree) key) false ≡ true =
-    ap (λ o. option_map_or (λ (s : LineSet). set.len (set.remove s t) == 0) o false) (line_at tree key) ∙ sym c.take.ensures.empty ∙ c.if-take.true in
+    let is : option_map_or (λ (s : LineSet). set.len (set.remove s t) == 0)
+    (finite.get (lines_of tree) key) false ≡ true =
+    ap (λ o. option_map_or (λ (s : LineSet). set.len (set.remove s t) == 0) o false)
+    (line_at tree key) ∙ sym c.take.ensures.empty ∙ c.if-take.true in
     record {
-      removed = from_entries-removed nat_list_cmp_total exact_bytes (λ k. k.items) c.take.new.lines c.cut.new.lines key c.cut.ensures
-          ∙ ap (λ (m : LinesMap). finite.remove m key) (rewritten tree c.take.new.lines key (λ s. set.remove s t) c.take.ensures.taken)
+      removed = from_entries-removed nat_list_cmp_total exact_bytes
+          (λ k. k.items) c.take.new.lines c.cut.new.lines key c.cut.ensures
+          ∙ ap (λ (m : LinesMap). finite.remove m key)
+          (rewritten tree c.take.new.lines key (λ s. set.remove s t) c.take.ensures.taken)
           ∙ emptied (lines_of tree) key t (finite.get (lines_of tree) key) is
           ∙ ap (λ (m : LinesMap). without_place m key t) c.self.view_is;
     }
@@ -29,8 +33,10 @@ returns-else-take c =
     let tree = c.self.inside.lines in
     let key = c.args.key.now in
     let t = c.args.ticket in
-    let is : option_map_or (λ (s : LineSet). set.len (set.remove s t) == 0) (finite.get (lines_of tree) key) false ≡ false =
-    ap (λ o. option_map_or (λ (s : LineSet). set.len (set.remove s t) == 0) o false) (line_at tree key) ∙ sym c.take.ensures.empty ∙ c.if-take.false in
+    let is : option_map_or (λ (s : LineSet). set.len (set.remove s t) == 0)
+    (finite.get (lines_of tree) key) false ≡ false =
+    ap (λ o. option_map_or (λ (s : LineSet). set.len (set.remove s t) == 0) o false)
+    (line_at tree key) ∙ sym c.take.ensures.empty ∙ c.if-take.false in
     record {
       removed = rewritten tree c.take.new.lines key (λ s. set.remove s t) c.take.ensures.taken
           ∙ left (lines_of tree) key t (finite.get (lines_of tree) key) is

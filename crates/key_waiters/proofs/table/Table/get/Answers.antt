@@ -5,4 +5,7 @@ use Rattle.key_waiters.proofs.Entries.{get-tree}
 use Rattle.key_waiters.proofs.table.Table.get.Goals as goal
 
 pub returns : goal.returns
-returns c = record { key = c.get.ensures.value ∙ sym (get-tree c.self.inside.keys c.args.ticket) ∙ ap (λ m. map.get m c.args.ticket) c.self.view_is }
+returns c = record {
+  key = c.get.ensures.value ∙ sym (get-tree c.self.inside.keys c.args.ticket)
+      ∙ ap (λ m. map.get m c.args.ticket) c.self.view_is;
+}

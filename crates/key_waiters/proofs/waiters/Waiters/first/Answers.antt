@@ -6,6 +6,7 @@ use Rattle.key_waiters.proofs.waiters.Waiters.first.Goals as goal
 
 pub returns : goal.returns
 returns c = record {
-  first = index_of_first c.self.inside.table c.self.inside.lines c.args.key.now c.args.above c.first.result c.self.invariant c.first.ensures.first
+  first = index_of_first c.self.inside.table c.self.inside.lines c.args.key.now c.args.above
+      c.first.result c.self.invariant c.first.ensures.first
       ∙ ap (λ (m : Waiting). first_at m c.args.key.now c.args.above) c.self.view_is;
 }

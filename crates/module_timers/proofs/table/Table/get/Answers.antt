@@ -5,4 +5,8 @@ use Rattle.module_timers.proofs.Entries.{get-tree}
 use Rattle.module_timers.proofs.table.Table.get.Goals as goal
 
 pub returns : goal.returns
-returns c = record { timer = c.get.ensures.value ∙ sym (get-tree c.self.inside.timers c.args.number) ∙ ap (λ m. map.get m c.args.number) c.self.view_is }
+returns c = record {
+  timer = c.get.ensures.value
+      ∙ sym (get-tree c.self.inside.timers c.args.number)
+      ∙ ap (λ m. map.get m c.args.number) c.self.view_is;
+}

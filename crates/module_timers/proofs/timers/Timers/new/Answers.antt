@@ -7,4 +7,5 @@ use Rattle.module_timers.proofs.timers.Timers.new.Goals as goal
 
 pub invariant_of-result : goal.invariant_of-result
 invariant_of-result c =
-    subst (λ s. Indexed s (table_of c.new.result 1)) (sym c.new-2.ensures.empty) (subst (λ m. Indexed set.empty (table_of m 1)) (sym c.new.ensures.empty) indexed_new)
+    subst (λ s. Indexed s (table_of c.new.result 1)) (sym c.new-2.ensures.empty)
+    (subst (λ m. Indexed set.empty (table_of m 1)) (sym c.new.ensures.empty) indexed_new)
