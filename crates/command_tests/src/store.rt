@@ -14,7 +14,7 @@ fn put(alloc: Global, keys: &mut KeyStore<u64>, key: &[u8], number: u64) -> Resu
 
 // Gives a key a deadline or none, where it is there.
 fn date(keys: &mut KeyStore<u64>, key: &[u8], at: Option<u64>) -> Result<(), NoMemory> {
-    if keys.get(key).is_some() {
+    if keys.get(key).is_some() && at != Some(0) {
         keys.set_deadline(key, at)?;
     }
     Ok(())
@@ -98,7 +98,7 @@ fn front(alloc: Global) -> Result<(Option<u8>, Option<u64>, Option<u64>), NoMemo
     }
     let deadline = keys.deadline(b"a");
     match keys.pop_first() {
-        Some((key, value)) => Ok((key.get(0), number(value), deadline)),
+        Some((key, value)) => Ok((key.as_slice().first().copied(), number(value), deadline)),
         None => Ok((None, None, deadline)),
     }
 }

@@ -6,6 +6,7 @@ mod DueTree
 mod Halves
 mod Indexes
 mod Soonest
+mod InWords
 mod Merged
 mod Iterated
 mod Counts

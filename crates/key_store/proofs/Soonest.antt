@@ -122,11 +122,11 @@ module _ {N : Type 0} (now : ℕ) where
       by (Some d) first rest at = (ap (bytes_cmp key) at.0 ∙ first, rest)
 
 -- it comes before each of them
-abbrev Leads : Due → List Due → Type 0
+abbrev pub Leads : Due → List Due → Type 0
 Leads due ds = AllByRecursion (λ d. is_gt (due_cmp due d) ≡ false) ds
 
 -- a due that does not come after another has no later moment
-no_later : (a b : Due) → is_gt (due_cmp a b) ≡ false → a.moment ≤ b.moment
+pub no_later : (a b : Due) → is_gt (due_cmp a b) ≡ false → a.moment ≤ b.moment
 no_later a b is = by (nat_cmp a.moment b.moment) refl (ranked a.moment b.moment (nat_cmp a.moment b.moment) refl) is
   where
     by : (o : Ordering) → nat_cmp a.moment b.moment ≡ o → MatchOrdering o (a.moment < b.moment) (a.moment ≡ b.moment) (b.moment < a.moment) → is_gt (ordering_then o (bytes_cmp a.key b.key)) ≡ false → a.moment ≤ b.moment
@@ -171,7 +171,7 @@ soonest_of x ds above (Some y) is leads =
     ] refl
 
 -- what holds of all dues holds of the soonest
-soonest_has : (P : Due → Type 0) (ds : List Due) → AllByRecursion P ds → IfSome (soonest ds) P
+pub soonest_has : (P : Due → Type 0) (ds : List Due) → AllByRecursion P ds → IfSome (soonest ds) P
 soonest_has P [] all = tt
 soonest_has P (d ∷ ds) all = by (soonest ds) (soonest_has P ds all.1)
   where
@@ -209,7 +209,7 @@ same_due a d up down = due_exact a d (by (due_cmp a d) up (sym (ap is_gt (due_to
     by Greater up down = absurd (true≢false up)
 
 module _ {N : Type 0} (now : ℕ) where
-  soonest_leads : (es : List (List ℕ × Entry N)) → T (sorted.is_sorted bytes_cmp es) → IfSome (soonest (dues now es)) (λ d. Leads d (dues now es))
+  pub soonest_leads : (es : List (List ℕ × Entry N)) → T (sorted.is_sorted bytes_cmp es) → IfSome (soonest (dues now es)) (λ d. Leads d (dues now es))
   soonest_leads [] rises = tt
   soonest_leads (e ∷ es) rises =
       let above = dues_above now e.0 es (first_part (sorted.below_all bytes_cmp e.0 es) (sorted.is_sorted bytes_cmp es) rises) in
@@ -223,7 +223,7 @@ module _ {N : Type 0} (now : ℕ) where
 
   -- ---- the dues of the keys
 
-  abbrev IsDue : KeysOf N → Due → Type 0
+  abbrev pub IsDue : KeysOf N → Due → Type 0
   IsDue keys d = (deadline_at keys d.key ≡ Some d.moment) × (d.moment ≤ now)
 
   pub entries_found : (keys : KeysOf N) → AllByRecursion (λ e. entry_at keys e.0 ≡ Some e.1) (finite.entries keys)
@@ -231,7 +231,7 @@ module _ {N : Type 0} (now : ℕ) where
       weaker (λ e. sorted.find bytes_cmp e.0 (finite.entries keys) ≡ Some e.1) (λ e. entry_at keys e.0 ≡ Some e.1) (λ e is. finite.get-entries keys e.0 ∙ is) (finite.entries keys)
       (all_found (finite.entries keys) (finite.entries_sorted keys))
 
-  all_are_due : (keys : KeysOf N) → AllByRecursion (IsDue keys) (dues now (finite.entries keys))
+  pub all_are_due : (keys : KeysOf N) → AllByRecursion (IsDue keys) (dues now (finite.entries keys))
   all_are_due keys =
       dues_all now (IsDue keys) (finite.entries keys)
       (weaker (λ e. entry_at keys e.0 ≡ Some e.1) (λ e. IfSome (due_at now e.0 e.1.deadline) (IsDue keys)) (λ e found. by e found (due_at now e.0 e.1.deadline) (at_key now e.0 e.1.deadline)) (finite.entries keys) (entries_found keys))
@@ -241,7 +241,7 @@ module _ {N : Type 0} (now : ℕ) where
       by e found (Some d) at = (ap (deadline_at keys) at.0 ∙ ap (option_and_then (λ (x : Entry N). x.deadline)) found ∙ at.1, at.2)
 
   -- what holds of all of them holds of each key that is due
-  each_due : (keys : KeysOf N) (P : Due → Type 0) → AllByRecursion P (dues now (finite.entries keys)) → (d : Due) → IsDue keys d → P d
+  pub each_due : (keys : KeysOf N) (P : Due → Type 0) → AllByRecursion P (dues now (finite.entries keys)) → (d : Due) → IsDue keys d → P d
   each_due keys P all d due = by (entry_at keys d.key) refl due.0
     where
       by : (o : Option (Entry N)) → entry_at keys d.key ≡ o → option_and_then (λ (x : Entry N). x.deadline) o ≡ Some d.moment → P d
@@ -252,7 +252,7 @@ module _ {N : Type 0} (now : ℕ) where
           subst (λ b. IfSome (cond b (Some d) None) P) come (subst (λ o. IfSome (due_at now d.key o) P) is here)
 
   -- where none is soonest, no key is due
-  none_due : (keys : KeysOf N) → soonest (dues now (finite.entries keys)) ≡ None → (d : Due) → IsDue keys d → ⊥
+  pub none_due : (keys : KeysOf N) → soonest (dues now (finite.entries keys)) ≡ None → (d : Due) → IsDue keys d → ⊥
   none_due keys none d due =
       each_due keys (λ _. ⊥) (subst (AllByRecursion (λ _. ⊥)) (sym (none_soonest (dues now (finite.entries keys)) none)) tt) d due
 

@@ -26,4 +26,4 @@ mod table;
 pub use entries::Entries;
 pub use name::Name;
 pub use put_back::PutBack;
-pub use store::KeyStore;
+pub use store::{KeyStore, next_due_in_words};

@@ -6,7 +6,7 @@ ghost use Rattle.std.specs.Borrow.{sem};
 ghost use Rattle.core_types.specs.Keys.{no_keys, value_at, deadline_at, with_value, with_deadline, without, renamed, key_count};
 ghost use Rattle.key_store.specs.Lending.{LendsValueOf};
 ghost use Rattle.key_store.specs.Listing.{listed};
-ghost use Rattle.key_store.specs.NextDue.{next_due};
+ghost use Rattle.key_store.specs.NextDue.{IsNextDue, next_due};
 
 use crate::due::{Dues, unless_same};
 use crate::stored::Stored;
@@ -265,3 +265,10 @@ impl<N> KeyStore<N> {
         }
     }
 }
+
+/// What `next_due` gives, in words: where it gives a key, that key's deadline is at most now, no
+/// other key has an earlier one, and of those of the same deadline none is before it in byte order;
+/// where it gives none, no key is due.
+pub fn next_due_in_words<N>(keys: &KeyStore<N>, now: u64)
+    ensures in_words { IsNextDue keys.now now (next_due keys.now now) }
+{}
