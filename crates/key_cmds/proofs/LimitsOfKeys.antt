@@ -48,12 +48,11 @@ use Rattle.key_cmds.specs.Laws.{KeepsLimits}
 use Rattle.key_cmds.specs.OneKey.{hash_done, list_done, on_hash, on_key, on_list, on_string, string_done, with_change}
 use Rattle.key_cmds.specs.Rows.{does}
 use Rattle.key_cmds.specs.Run.{Run, answers}
-use Rattle.key_cmds.specs.SeveralKeys.{Removed, delete, goes_first, is_odd, is_there, moves, pairs_of, removed, rename, rename_there, set_each, sets, with_pairs}
+use Rattle.key_cmds.specs.SeveralKeys.{Pair, Removed, delete, goes_first, is_odd, is_there, moves, pairs_of, removed, rename, rename_there, set_each, sets, with_pairs}
 use Rattle.key_cmds.specs.declared.command.Command.{Command}
 use Rattle.key_cmds.specs.declared.command.Command.TheVariants as command
 use Rattle.key_cmds.specs.declared.command.KeyCmd.{KeyCmd}
 use Rattle.key_cmds.specs.declared.command.KeyCmd.TheVariants as key
-use Rattle.key_cmds.specs.declared.pair.Pair.{Pair}
 
 -- ---- words, and what is made of them
 

@@ -15,8 +15,12 @@ use Rattle.core_types.specs.declared.reply.Reply.{Reply}
 use Rattle.core_types.specs.declared.reply.Reply.TheVariants as reply
 use Rattle.core_types.specs.declared.value.Value.{Value}
 use Rattle.core_types.specs.declared.value.Value.TheVariants as value
-use Rattle.key_cmds.specs.declared.pair.Pair.{Pair}
 use Rattle.key_cmds.specs.Run.{Run, answers, native_in, refuses}
+
+-- a key, and the string that it is to have
+pub record Pair : Type 0 where
+  pub key : List ℕ
+  pub value : List ℕ
 
 abbrev pub ok : Reply
 ok = reply.Simple (codes "OK")

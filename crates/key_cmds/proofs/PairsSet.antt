@@ -5,8 +5,7 @@ use Rattle.core_types.specs.Keys.{KeysOf, value_at, with_value}
 use Rattle.core_types.specs.declared.value.Value.TheVariants as value
 use Rattle.key_cmds.specs.Leaving.{IsFrontSet, KeysAndLeft, with_set}
 use Rattle.key_cmds.specs.Run.{native_in}
-use Rattle.key_cmds.specs.SeveralKeys.{left_by_pairs, with_pairs}
-use Rattle.key_cmds.specs.declared.pair.Pair.{Pair}
+use Rattle.key_cmds.specs.SeveralKeys.{Pair, left_by_pairs, with_pairs}
 
 module _ {N : Type 0} where
   set_more : (front more : List Pair) (keys : KeysOf N) → with_pairs (front ++ more) keys ≡ with_pairs more (with_pairs front keys)
@@ -54,9 +53,12 @@ module _ {N : Type 0} where
   front_set rest pairs before after h = record { front = h.front; rest = rest; whole = h.whole; set = h.set }
 
   -- one pair is set
-  pub set_one : (pair : Pair) (now after : KeysAndLeft N) → after.keys ≡ with_pairs (pair ∷ []) now.keys → after.left ≡ now.left ++ left_by_pairs (pair ∷ []) now.keys → after ≡ with_set (pair ∷ []) now
+  pub set_one : (pair : Pair) (now after : KeysAndLeft N) → after.keys ≡ with_value now.keys pair.key (value.Str pair.value)
+      → after.left ≡ now.left ++ native_in (value_at now.keys pair.key) → after ≡ with_set (pair ∷ []) now
   set_one pair now after keys left =
-      ap (λ k. record { keys = k; left = after.left }) keys ∙ ap (λ l. record { keys = with_pairs (pair ∷ []) now.keys; left = l }) left
+      ap (λ k. record { keys = k; left = after.left }) keys
+      ∙ ap (λ l. record { keys = with_pairs (pair ∷ []) now.keys; left = l })
+      (left ∙ ap (λ values. now.left ++ values) (sym (append-nil (native_in (value_at now.keys pair.key)))))
 
   pub next_taken : (pair : Pair) (rest all pairs : List Pair) (before now after : KeysAndLeft N) → all ≡ pair ∷ rest → AreSetBut all pairs before now → after ≡ with_set (pair ∷ []) now → AreSetBut rest pairs before after
   next_taken pair rest all pairs before now after same h step =
