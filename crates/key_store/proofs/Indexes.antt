@@ -12,6 +12,7 @@ use Rattle.std.specs.FinSet as set
 use Rattle.std.specs.FinSet.{FinSet}
 use Rattle.std.proofs.lemmas.Bool.{false≢true}
 use Rattle.std.proofs.lemmas.Map.Lookups.{exact_bytes}
+use Rattle.std.proofs.lemmas.Option.{none-some}
 use Rattle.core_types.specs.declared.value.Value.{Value}
 use Rattle.core_types.specs.Keys.{Entry, KeysOf, no_keys, entry_at, deadline_at, with_entry, with_value, with_changed, with_due, with_deadline, without, with_moved, renamed}
 use Rattle.key_store.specs.NextDue.{Due}
@@ -183,6 +184,11 @@ module _ {N : Type 0} where
   pub some_entry : (o : Option (Entry N)) → IsSome (option_map (λ e. e.value) o) → IsSome o
   some_entry None some = some
   some_entry (Some e) some = refl
+
+  -- and one that has none has no entry
+  pub no_entry : (o : Option (Entry N)) → option_map (λ e. e.value) o ≡ None → o ≡ None
+  no_entry None none = refl
+  no_entry (Some e) none = absurd (none-some e.value (sym none))
 
   -- a key is taken out
   pub indexed_taken : (dues : FinSet due_cmp) (keys : KeysOf N) (key : List ℕ) (before : Option ℕ) → IsIndexed dues keys → deadline_at keys key ≡ before

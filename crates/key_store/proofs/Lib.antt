@@ -1,6 +1,11 @@
+mod Deadlines
 mod Trees
 mod Moves
 mod Shown
 mod DueTree
+mod Halves
 mod Indexes
 mod Soonest
+mod Merged
+mod Iterated
+mod Counts

@@ -1,6 +1,6 @@
 -- What the steps of one call make of the keys. Serves the clauses of `Table::rename` and of the
 -- calls of `KeyStore` that change a key in its place.
-use Rattle.std.proofs.Common.{⊎_elim, ◌≡◌, ◌≢◌, refl, sym, ap, subst, ◌∙◌, ℕ, Bool, true, false, cond, List, Option, Some, None, IsSome, is_some, MutBor}
+use Rattle.std.proofs.Common.{⊎_elim, ◌≡◌, ◌≢◌, refl, sym, ap, subst, ◌∙◌, ℕ, Bool, true, false, cond, List, Option, Some, None, IsSome, is_some, MutBor, Result, Ok, Err, OnOk, OnErr}
 use Rattle.std.specs.Ordering.{nat_cmp, eq_by_cmp}
 use Rattle.std.specs.Cmp.Lexicographic.{slice_cmp, nat_list_cmp_total}
 use Rattle.std.specs.Option.{option_copied_mut, option_and_then, OnSome}
@@ -79,3 +79,19 @@ module _ {N : Type 0} where
       subst (λ o. OnSome o (end ≡ with_entry keys key entry)) is ends
       ∙ ap (with_entry keys key) new
       ∙ ap (with_due keys key at) (ap option_copied_mut (sym is) ∙ found)
+
+  -- a key that gets what it has stays as it is
+  pub same_again : (keys : KeysOf N) (key : List ℕ) (entry : Entry N) → entry_at keys key ≡ Some entry → with_entry keys key entry ≡ keys
+  same_again keys key entry found = same_map nat_list_cmp_total exact_bytes _ _ (λ q. get-insert nat_list_cmp_total keys key entry q ∙ by q (is_same q key) refl)
+    where
+      by : (q : List ℕ) (b : Bool) → is_same q key ≡ b → cond b (Some entry) (entry_at keys q) ≡ entry_at keys q
+      by q true same = sym found ∙ ap (entry_at keys) (sym (exact_bytes q key (equal (slice_cmp nat_cmp q key) same)))
+      by q false apart = refl
+
+pub on_ok : {A B P Q : Type 0} (r : Result A B) → (P → Q) → OnOk r P → OnOk r Q
+on_ok (Ok a) gives p = gives p
+on_ok (Err b) gives p = tt
+
+pub on_err : {A B P Q : Type 0} (r : Result A B) → (P → Q) → OnErr r P → OnErr r Q
+on_err (Ok a) gives p = tt
+on_err (Err b) gives p = gives p

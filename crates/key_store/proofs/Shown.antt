@@ -26,3 +26,9 @@ module _ {K N : Type 0} (read : K → List ℕ) where
   first_shown taken keys is =
       shown_once taken ∙ ap (option_map (λ (e : List ℕ × Entry N). (e.0, e.1.value))) is
       ∙ sym (slice_get-map (λ (e : List ℕ × Entry N). (e.0, e.1.value)) (finite.entries keys) 0)
+
+module _ {N : Type 0} where
+  -- what was taken, its key read as it is
+  pub same_first : (taken first : Option (List ℕ × Entry N)) → taken ≡ first → option_map (λ (p : List ℕ × Entry N). (p.0, p.1)) taken ≡ first
+  same_first None first is = is
+  same_first (Some p) first is = is

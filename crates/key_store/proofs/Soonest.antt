@@ -179,7 +179,7 @@ soonest_has P (d ∷ ds) all = by (soonest ds) (soonest_has P ds all.1)
     by None _ = all.0
     by (Some y) later = elim (nat_lt y.moment d.moment) as (λ b. P (cond b y d)) [ true ↦ later | false ↦ all.0 ]
 
-weaker : {A : Type 0} (P Q : A → Type 0) → ((e : A) → P e → Q e) → (es : List A) → AllByRecursion P es → AllByRecursion Q es
+pub weaker : {A : Type 0} (P Q : A → Type 0) → ((e : A) → P e → Q e) → (es : List A) → AllByRecursion P es → AllByRecursion Q es
 weaker P Q gives [] all = tt
 weaker P Q gives (e ∷ es) all = (gives e all.0, weaker P Q gives es all.1)
 
@@ -226,7 +226,7 @@ module _ {N : Type 0} (now : ℕ) where
   abbrev IsDue : KeysOf N → Due → Type 0
   IsDue keys d = (deadline_at keys d.key ≡ Some d.moment) × (d.moment ≤ now)
 
-  entries_found : (keys : KeysOf N) → AllByRecursion (λ e. entry_at keys e.0 ≡ Some e.1) (finite.entries keys)
+  pub entries_found : (keys : KeysOf N) → AllByRecursion (λ e. entry_at keys e.0 ≡ Some e.1) (finite.entries keys)
   entries_found keys =
       weaker (λ e. sorted.find bytes_cmp e.0 (finite.entries keys) ≡ Some e.1) (λ e. entry_at keys e.0 ≡ Some e.1) (λ e is. finite.get-entries keys e.0 ∙ is) (finite.entries keys)
       (all_found (finite.entries keys) (finite.entries_sorted keys))

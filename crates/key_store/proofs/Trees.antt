@@ -147,3 +147,19 @@ module _ {K X B : Type 0} {R : B → B → Ordering} (total : IsTotalOrder R) (e
   written m n key None w keys found writes is = tt
   written m n key (Some r) w keys found writes is =
       from_entries-put total exact read m n key w (writes.3 (subst IsSome found refl)) ∙ ap (λ old. insert old key w) is
+
+module _ {K X B : Type 0} {R : B → B → Ordering} (total : IsTotalOrder R) (exact : CmpEqualImpliesEq R) (read : K → B) where
+  -- the first key of the tree is the first one of the map
+  pub first_name : (es : List (K × X)) (keys : finite.FinMap R X) (first : Option (K × X)) → IsStrictlySortedBy (λ x y. R (read x) (read y)) (keys_of es)
+      → from_entries {R = R} (by_read total exact read es) ≡ keys → slice_get es 0 ≡ first → option_map (λ (p : K × X). read p.0) first ≡ option_map (λ (e : B × X). e.0) (slice_get (finite.entries keys) 0)
+  first_name es keys first rises is found =
+      sym (ap (option_map (λ (p : K × X). read p.0)) found)
+      ∙ by es
+      ∙ ap (λ xs. option_map (λ (e : B × X). e.0) (slice_get xs 0)) (sym (entries-read total exact read es rises) ∙ ap finite.entries is)
+    where
+      by : (es : List (K × X)) → option_map (λ (p : K × X). read p.0) (slice_get es 0) ≡ option_map (λ (e : B × X). e.0) (slice_get (by_read total exact read es) 0)
+      by [] = refl
+      by (e ∷ es) = refl
+
+pub none_first : {A : Type 0} (es : List A) → length es ≡ 0 → slice_get es 0 ≡ None
+none_first es none = ap (λ xs. slice_get xs 0) (no_length es none)

@@ -5,6 +5,7 @@ ghost use Rattle.std.specs.Option.{option_map};
 ghost use Rattle.std.specs.FinSet as set;
 ghost use Rattle.key_store.specs.inner.Index.{due_of, unless_same, entered, taken_out, IsEarliest};
 
+use crate::name::Name;
 use core_types::NoMemory;
 use std::alloc::Global;
 use std::collections::BTreeSet;
@@ -15,7 +16,7 @@ use std::marker::Model;
 #[derive(Debug, PartialEq, Eq, PartialOrd, Ord, Drop)]
 pub(crate) struct Due {
     pub moment: u64,
-    pub key: Vec<u8>,
+    pub key: Name,
 }
 
 /// The keys that have a deadline, in the order in which they are due. Every call is O(log n); only
@@ -64,16 +65,23 @@ impl Dues {
         ensures err { OnErr result (self.new ≡ self.old) }
     {
         if let Some(moment) = deadline {
-            let key = Vec::from_slice(alloc, key)?;
+            let key = Name::new(alloc, key)?;
             self.dues.insert(Due { moment, key })?;
         }
         Ok(())
     }
 
+    // Takes out a key at its deadline, where it has one.
+    pub(crate) fn forget(&mut self, key: Name, deadline: Option<u64>)
+        ensures removed { self.new ≡ taken_out self.old key deadline }
+    {
+        let _ = self.remove(key, deadline);
+    }
+
     // Takes out a key at its deadline, where it has one, and gives the key back.
-    pub(crate) fn remove(&mut self, key: Vec<u8>, deadline: Option<u64>) -> Vec<u8>
+    pub(crate) fn remove(&mut self, key: Name, deadline: Option<u64>) -> Name
         ensures key { result ≡ key }
-        ensures removed { self.new ≡ taken_out self.old key.items deadline }
+        ensures removed { self.new ≡ taken_out self.old key deadline }
     {
         let Some(moment) = deadline else {
             return key;

@@ -1,6 +1,6 @@
 //! The store of keys.
 
-ghost use Rattle.std.specs.Prelude.{◌≡◌, ◌≢◌, ◌<◌, ◌^◌, None, map, slice_get, length, IsSome, IfOk, IfErr, OnOk, OnErr};
+ghost use Rattle.std.specs.Prelude.{◌≡◌, ◌≢◌, ◌<◌, ◌^◌, None, Some, slice_get, length, IsSome, IfOk, IfErr, OnOk, OnErr};
 ghost use Rattle.std.specs.Option.{option_copied, option_copied_mut, option_map, MatchOption};
 ghost use Rattle.std.specs.Borrow.{sem};
 ghost use Rattle.core_types.specs.Keys.{no_keys, value_at, deadline_at, with_value, with_deadline, without, renamed, key_count};
@@ -11,7 +11,7 @@ ghost use Rattle.key_store.specs.NextDue.{next_due};
 use crate::due::{Dues, unless_same};
 use crate::stored::Stored;
 use crate::table::{Renamed, Table};
-use crate::{Entries, PutBack};
+use crate::{Entries, Name, PutBack};
 use core_types::{Blob, NoMemory, Value};
 use std::alloc::Global;
 use std::marker::Model;
@@ -93,7 +93,7 @@ impl<N> KeyStore<N> {
     {
         match self.table.remove(key) {
             Some((key, stored)) => {
-                self.dues.remove(key, stored.deadline());
+                self.dues.forget(key, stored.deadline());
                 Some(stored.into_value())
             }
             None => None,
@@ -109,15 +109,59 @@ impl<N> KeyStore<N> {
         ensures value_back { IfErr result (λ back. back.value ≡ value) }
         ensures err { OnErr result (self.new ≡ self.old) }
     {
-        let deadline = self.deadline(key.as_slice());
-        let key = self.dues.remove(key.into_vec(), deadline);
-        match self.table.insert(key, Stored::new(value, None)) {
-            Ok(Some(before)) => Ok(Some(before.into_value())),
-            Ok(None) => Ok(None),
-            Err((key, stored)) => Err(PutBack {
-                key: Blob::from_vec(key),
-                value: stored.into_value(),
-            }),
+        if self.get(key.as_slice()).is_some() {
+            match self.replace(key.as_slice(), value) {
+                Ok(before) => Ok(Some(before)),
+                Err(value) => Err(PutBack { key, value }),
+            }
+        } else {
+            match self.put_new(key.as_slice(), value) {
+                Ok(()) => Ok(None),
+                Err(value) => Err(PutBack { key, value }),
+            }
+        }
+    }
+
+    /// Puts a key that is not there, with this value and no deadline. An `Err` changes nothing, and
+    /// gives the value back. The key is looked up once.
+    pub fn put_new(&mut self, key: &[u8], value: Value<N>) -> Result<(), Value<N>>
+        requires absent { value_at self.old key.now ≡ None }
+        ensures ok { OnOk result (self.new ≡ with_value self.old key.now value) }
+        ensures back { IfErr result (λ back. back ≡ value) }
+        ensures err { OnErr result (self.new ≡ self.old) }
+    {
+        let Ok(name) = Name::new(self.alloc, key) else {
+            return Err(value);
+        };
+        match self.table.insert(name, Stored::new(value, None)) {
+            Ok(before) => match before {
+                None => Ok(()),
+                Some(_) => unreachable!(),
+            },
+            Err(stored) => Err(stored.into_value()),
+        }
+    }
+
+    /// Gives a key that is there this value and no deadline, and gives back the value that it had.
+    /// An `Err` changes nothing, and gives the value back; it comes only where the key has a
+    /// deadline and more than 23 bytes. A key without a deadline is looked up once.
+    pub fn replace(&mut self, key: &[u8], value: Value<N>) -> Result<Value<N>, Value<N>>
+        requires there { IsSome (value_at self.old key.now) }
+        ensures before { IfOk result (λ before. Some before ≡ value_at self.old key.now) }
+        ensures ok { OnOk result (self.new ≡ with_value self.old key.now value) }
+        ensures back { IfErr result (λ back. back ≡ value) }
+        ensures err { OnErr result (self.new ≡ self.old) }
+    {
+        match self.table.renew(key, value) {
+            Ok(before) => Ok(before),
+            Err((deadline, value)) => {
+                let Ok(name) = Name::new(self.alloc, key) else {
+                    return Err(value);
+                };
+                let before = self.table.exchange(key, Stored::new(value, None));
+                self.dues.forget(name, Some(deadline));
+                Ok(before.into_value())
+            }
         }
     }
 
@@ -133,20 +177,20 @@ impl<N> KeyStore<N> {
     {
         let moved = self.deadline(from);
         let there = self.deadline(to.as_slice());
-        let name = Vec::from_slice(self.alloc, to.as_slice())?;
+        let name = Name::new(self.alloc, to.as_slice())?;
         let gained = unless_same(moved, there);
         self.dues.insert(self.alloc, to.as_slice(), gained)?;
-        match self.table.rename(self.alloc, from, to.into_vec()) {
+        match self.table.rename(self.alloc, from, to.as_slice()) {
             Ok(Renamed { name: left, before }) => {
-                self.dues.remove(name, unless_same(there, moved));
-                self.dues.remove(left, moved);
+                self.dues.forget(name, unless_same(there, moved));
+                self.dues.forget(left, moved);
                 match before {
                     Some(before) => Ok(Some(before.into_value())),
                     None => Ok(None),
                 }
             }
             Err(NoMemory) => {
-                self.dues.remove(name, gained);
+                self.dues.forget(name, gained);
                 Err(NoMemory)
             }
         }
@@ -157,19 +201,19 @@ impl<N> KeyStore<N> {
         ensures count { result ≡ key_count self.now }
         ensures small { result < 2 ^ 63 }
     {
-        self.table.len() as u64
+        self.table.len()
     }
 
     /// The keys in byte order, each with its value.
     pub fn iter(&self) -> Entries<'_, N>
         ensures listed { result ≡ listed self.now }
     {
-        Entries::new(self.table.iter())
+        self.table.iter()
     }
 
     /// Takes out the least key in byte order, with its value, or gives `None` where there is no
     /// key.
-    pub fn pop_first(&mut self) -> Option<(Blob, Value<N>)>
+    pub fn pop_first(&mut self) -> Option<(Name, Value<N>)>
         ensures first { result ≡ slice_get (listed self.old) 0 }
         ensures rest { MatchOption result (self.new ≡ self.old)
             (λ first. self.new ≡ without self.old first.0) }
@@ -177,7 +221,7 @@ impl<N> KeyStore<N> {
         match self.table.pop_first() {
             Some((key, stored)) => {
                 let key = self.dues.remove(key, stored.deadline());
-                Some((Blob::from_vec(key), stored.into_value()))
+                Some((key, stored.into_value()))
             }
             None => None,
         }
@@ -194,17 +238,18 @@ impl<N> KeyStore<N> {
         }
     }
 
-    /// Gives a key that is there this deadline, or none. An `Err` changes nothing.
+    /// Gives a key that is there this deadline, which is not 0, or none. An `Err` changes nothing.
     pub fn set_deadline(&mut self, key: &[u8], at: Option<u64>) -> Result<(), NoMemory>
         requires there { IsSome (value_at self.old key.now) }
+        requires positive { at ≢ Some 0 }
         ensures ok { OnOk result (self.new ≡ with_deadline self.old key.now at) }
         ensures err { OnErr result (self.new ≡ self.old) }
     {
         let before = self.deadline(key);
-        let name = Vec::from_slice(self.alloc, key)?;
+        let name = Name::new(self.alloc, key)?;
         self.dues.insert(self.alloc, key, unless_same(at, before))?;
         self.table.set_deadline(key, at);
-        self.dues.remove(name, unless_same(before, at));
+        self.dues.forget(name, unless_same(before, at));
         Ok(())
     }
 

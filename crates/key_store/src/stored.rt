@@ -1,6 +1,6 @@
 //! What the store has for a key.
 
-ghost use Rattle.std.specs.Prelude.{◌≡◌, ℕ, Option};
+ghost use Rattle.std.specs.Prelude.{◌≡◌, ◌≢◌, None, Some, IfOk, IfErr, OnOk, OnErr};
 ghost use Rattle.std.specs.Borrow.{sem};
 ghost use Rattle.key_store.specs.inner.Held.{held};
 ghost use Rattle.key_store.specs.inner.LendingValue.{LendsValue};
@@ -8,27 +8,34 @@ ghost use Rattle.key_store.specs.inner.LendingValue.{LendsValue};
 use core_types::{Blob, Value};
 use std::alloc::Global;
 use std::marker::Model;
+use std::mem::replace;
 
 /// A value, and the moment in milliseconds at which it is due, where it has one.
 #[derive(Drop)]
 pub(crate) struct Stored<N> {
     value: Value<N>,
-    deadline: Option<u64>,
+    // The moment, or 0 where there is none.
+    due: u64,
 }
 
 impl<N> Model for Stored<N> {
     ghost use Rattle.core_types.specs.Keys.{Entry};
+    ghost use Rattle.key_store.specs.inner.Held.{deadline_of};
 
     ghost Value = { Entry N };
 
-    ghost view = { λ s. record { value = s.value; deadline = s.deadline } };
+    ghost view = { λ s. record { value = s.value; deadline = deadline_of s.due } };
 }
 
 impl<N> Stored<N> {
     pub(crate) fn new(value: Value<N>, deadline: Option<u64>) -> Stored<N>
+        requires positive { deadline ≢ Some 0 }
         ensures { result ≡ record { value = value; deadline = deadline } }
     {
-        Stored { value, deadline }
+        Stored {
+            value,
+            due: deadline.unwrap_or(0),
+        }
     }
 
     pub(crate) fn value(&self) -> &Value<N>
@@ -40,20 +47,45 @@ impl<N> Stored<N> {
     pub(crate) fn deadline(&self) -> Option<u64>
         ensures { result ≡ self.now.deadline }
     {
-        self.deadline
+        if self.due == 0 { None } else { Some(self.due) }
     }
 
     pub(crate) fn into_value(self) -> Value<N>
         ensures { result ≡ self.value }
     {
-        let Stored { value, deadline: _ } = self;
+        let Stored { value, due: _ } = self;
         value
     }
 
     pub(crate) fn set_deadline(&mut self, deadline: Option<u64>)
+        requires positive { deadline ≢ Some 0 }
         ensures { self.new ≡ record self.old { deadline = deadline } }
     {
-        self.deadline = deadline;
+        self.due = deadline.unwrap_or(0);
+    }
+
+    // Puts another value in the place of this, where there is no deadline, and gives this back.
+    // Where there is one, the other comes back with it.
+    pub(crate) fn renew(&mut self, value: Value<N>) -> Result<Value<N>, (u64, Value<N>)>
+        ensures before { IfOk result
+            (λ before. self.old ≡ record { value = before; deadline = None }) }
+        ensures ok { OnOk result (self.new ≡ record { value = value; deadline = None }) }
+        ensures dated { IfErr result (λ back. self.old.deadline ≡ Some back.0) }
+        ensures back { IfErr result (λ back. back.1 ≡ value) }
+        ensures err { OnErr result (self.new ≡ self.old) }
+    {
+        match self.deadline() {
+            Some(deadline) => Err((deadline, value)),
+            None => Ok(replace(&mut self.value, value)),
+        }
+    }
+
+    // Puts another entry in the place of this, and gives back this.
+    pub(crate) fn exchange(&mut self, stored: Stored<N>) -> Stored<N>
+        ensures before { result ≡ self.old }
+        ensures after { self.new ≡ stored }
+    {
+        replace(self, stored)
     }
 
     // The value, to be changed.

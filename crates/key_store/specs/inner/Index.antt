@@ -18,7 +18,7 @@ due_cmp a b = ordering_then (nat_cmp a.moment b.moment) (slice_cmp nat_cmp a.key
 
 -- what a due is, without where its key lies in memory
 abbrev pub due_of : declared.Due → Due
-due_of due = record { key = due.key.items; moment = due.moment }
+due_of due = record { key = due.key; moment = due.moment }
 
 -- as a pair
 abbrev pub due_code : Coded Due

@@ -7,6 +7,6 @@ use Rattle.key_store.proofs.due.Dues.remove.Goals as goal
 
 pub returns-clause-removed : goal.returns-clause-removed
 returns-clause-removed c =
-    let due : Due = record { key = c.args.key.items; moment = c.in-Some.moment } in
+    let due : Due = record { key = c.args.key; moment = c.in-Some.moment } in
     removed due_total due_exact due_of c.self.inside.dues c.remove.new.self due c.args.self.now c.remove.ensures.updates c.self.view_is
-    ∙ ap (taken_out c.args.self.now c.args.key.items) (sym c.in-Some.is)
+    ∙ ap (taken_out c.args.self.now c.args.key) (sym c.in-Some.is)

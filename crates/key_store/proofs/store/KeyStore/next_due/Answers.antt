@@ -14,7 +14,7 @@ returns-in-Some g c =
     let due = c.in-Some.due.now in
     let first = option_map (λ d. due_of d.now) c.first.result in
     record {
-      first = ap Some c.as_slice.ensures.value
+      first = ap Some c.as_slice.ensures.bytes
           ∙ sym (ap (λ o. option_map (λ d. d.key) (come now (option_map (λ d. due_of d.now) o))) c.in-Some.is ∙ ap (λ b. option_map (λ d. d.key) (cond b (Some (due_of due)) None)) (le-leb due.moment now c.if-due-now.true))
           ∙ ap (option_map (λ d. d.key)) (first_is_next now c.self.inside.dues c.self.inside.table first c.self.invariant c.first.ensures.earliest)
           ∙ ap (λ keys. next_due keys now) c.self.view_is;

@@ -11,8 +11,8 @@ invariant_of-self g c =
     let dues = c.self.inside.dues in
     let key = c.args.key.now in
     let before = c.deadline.result in
-    indexed_as (taken_out dues key before) c.remove-in-Some.new.self (without keys key) c.remove.new.self
-    (c.remove-in-Some.ensures.removed ∙ ap (λ k. taken_out dues k before) c.in-Some.ensures.key)
+    indexed_as (taken_out dues key before) c.forget.new.self (without keys key) c.remove.new.self
+    (c.forget.ensures.removed ∙ ap (λ k. taken_out dues k before) c.in-Some.ensures.key)
     c.remove.ensures.removed
     (indexed_taken dues keys key before c.self.invariant (ap deadline_in (sym c.in-Some.ensures.entry) ∙ sym c.deadline.ensures))
 

@@ -1,10 +1,17 @@
--- Serves what `Table::close` owes to the tree.
-use Rattle.std.proofs.Common.{ap, ◌∙◌}
-use Rattle.std.specs.Cmp.Lexicographic.{nat_list_cmp_total}
-use Rattle.std.proofs.lemmas.Map.Lookups.{exact_bytes}
+-- Serves what Table::close owes to both tables.
+use Rattle.std.proofs.Common.{ap, sym, ◌∙◌, arith}
 use Rattle.core_types.specs.Keys.{key_count}
-use Rattle.key_store.proofs.Trees.{none_left}
+use Rattle.key_store.proofs.Merged.{both_count}
 use Rattle.key_store.proofs.table.Table.close.Goals as goal
 
-pub destroy_empty-requires : goal.destroy_empty-requires
-destroy_empty-requires g c = none_left nat_list_cmp_total exact_bytes (λ k. k.items) c.self.inside.entries.entries (ap key_count c.self.view_is ∙ c.requires)
+pub close-requires : goal.close-requires
+close-requires g c =
+    let t = c.self.inside in
+    let none = sym (both_count t.short t.long c.self.invariant.shorts c.self.invariant.longs) ∙ ap key_count c.self.view_is ∙ c.requires in
+    omega (arith, none)
+
+pub close-requires-2 : goal.close-requires-2
+close-requires-2 g c =
+    let t = c.self.inside in
+    let none = sym (both_count t.short t.long c.self.invariant.shorts c.self.invariant.longs) ∙ ap key_count c.self.view_is ∙ c.requires in
+    omega (arith, none)

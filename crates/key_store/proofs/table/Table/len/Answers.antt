@@ -1,11 +1,18 @@
 -- Serves clause count of Table::len.
-use Rattle.std.proofs.Common.{ap, sym, ◌∙◌}
-use Rattle.std.specs.Cmp.Lexicographic.{nat_list_cmp_total}
-use Rattle.std.proofs.lemmas.Map.Lookups.{exact_bytes}
+use Rattle.std.proofs.Common.{ap, sym, ◌∙◌, ◌+◌, arith}
 use Rattle.core_types.specs.Keys.{key_count}
-use Rattle.key_store.proofs.Trees.{len-read}
+use Rattle.key_store.proofs.Merged.{both_count}
 use Rattle.key_store.proofs.table.Table.len.Goals as goal
 
-pub returns-clause-count : goal.returns-clause-count
-returns-clause-count g c =
-    c.len.ensures.len ∙ sym (len-read nat_list_cmp_total exact_bytes (λ k. k.items) c.self.inside.entries.entries c.len.ensures.ordered) ∙ ap key_count c.self.view_is
+pub returns : goal.returns
+returns g c =
+    let t = c.self.inside in
+    record {
+      small = (
+          let short = c.len.ensures.count in
+          let long = c.len-2.ensures.count in
+          let few = c.self.invariant.few in
+          omega (arith, short, long, few)
+          );
+      count = (λ i. c.len.ensures.count i + c.len-2.ensures.count i) ∙ sym (both_count t.short t.long c.self.invariant.shorts c.self.invariant.longs) ∙ ap key_count c.self.view_is;
+    }
