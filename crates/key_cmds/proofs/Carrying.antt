@@ -260,25 +260,20 @@ module _ {N B : Type 0} (of : B → Plain) (r : Result Ran NoMemory) (key at : L
 -- Where the key is there, its value is lent to the command, and what becomes of the value becomes
 -- of the key.
 module _ {N : Type 0} (key at : List ℕ) (same : key ≡ at) (keys end : KeysOf N) where
-  pub lent_does : (r : Result (Outcome Plain) NoMemory) (held left : Value N) (done : Option (Value N) → Done Plain) → value_at keys key ≡ Some held → end ≡ with_changed keys key left
-      → IfOk r (λ o. DoesToValue o held left (done (Some held))) → IfOk r (λ o. DoesToKeys at o keys end (done (value_at keys at)))
-  lent_does r held left done has ends h =
-      ok_map r _ _
-      (λ o does.
+  pub lent_does : (o : Outcome Plain) (held left : Value N) (done : Option (Value N) → Done Plain) → value_at keys key ≡ Some held → end ≡ with_changed keys key left
+      → DoesToValue o held left (done (Some held)) → DoesToKeys at o keys end (done (value_at keys at))
+  lent_does o held left done has ends does =
       subst (λ (k : List ℕ). DoesToKeys k o keys end (done (value_at keys k))) same
       (subst (λ (e : KeysOf N). DoesToKeys key o keys e (done (value_at keys key))) (sym ends)
       (subst (λ (v : Option (Value N)). DoesToKeys key o keys (with_changed keys key left) (done v)) (sym has)
-      (does_to_keys key o keys held left (done (Some held)) has does)))) h
+      (does_to_keys key o keys held left (done (Some held)) has does)))
 
-  pub lent_room : (r : Result (Outcome Plain) NoMemory) (room : Vec N Global) (left : Value N) → end ≡ with_changed keys key left
-      → OnOk r (HasRoom room (Some left)) → OnOk r (HasRoom room (value_at end at))
-  lent_room r room left ends h =
-      on_ok r (λ (fits : HasRoom room (Some left)). subst (λ (v : Option (Value N)). HasRoom room v)
-      (sym (ap (λ (k : List ℕ). value_at end k) (sym same) ∙ ap (λ (e : KeysOf N). value_at e key) ends ∙ value_changed keys key left)) fits) h
+  pub lent_value : (left : Value N) → end ≡ with_changed keys key left → value_at end at ≡ Some left
+  lent_value left ends =
+      ap (λ (k : List ℕ). value_at end k) (sym same) ∙ ap (λ (e : KeysOf N). value_at e key) ends ∙ value_changed keys key left
 
-  pub lent_err : (r : Result (Outcome Plain) NoMemory) (held left : Value N) → value_at keys key ≡ Some held → end ≡ with_changed keys key left
-      → OnErr r (left ≡ held) → OnErr r (end ≡ keys)
-  lent_err r held left has ends h = err_map r (λ e. ends ∙ ap (with_changed keys key) e ∙ changed_same keys key held has) h
+  pub lent_same : (held left : Value N) → value_at keys key ≡ Some held → end ≡ with_changed keys key left → left ≡ held → end ≡ keys
+  lent_same held left has ends kept = ends ∙ ap (with_changed keys key) kept ∙ changed_same keys key held has
 
   pub absent_does : {B : Type 0} (of : B → Plain) (o : Outcome B) (made : Outcome Plain) (row : Done B) (done : Option (Value N) → Done Plain) → value_at keys key ≡ None → end ≡ keys
       → made ≡ outcome_of of o → done None ≡ done_of of row → Does o None None row → DoesToKeys at made keys end (done (value_at keys at))
@@ -287,8 +282,3 @@ module _ {N : Type 0} (key at : List ℕ) (same : key ≡ at) (keys end : KeysOf
       (subst (λ (e : KeysOf N). DoesToKeys key made keys e (done (value_at keys key))) (sym ends)
       (subst (λ (d : Done Plain). DoesToKeys key made keys keys d) (sym (ap done none ∙ rows))
       (subst (λ (m : Outcome Plain). DoesToKeys key m keys keys (done_of of row)) (sym is) (does_on_new of key o keys row none does))))
-
-  pub absent_room : (room : Vec N Global) → value_at keys key ≡ None → end ≡ keys → vec_len room ≤ vec_capacity room → HasRoom room (value_at end at)
-  absent_room room none ends fits =
-      subst (λ (v : Option (Value N)). HasRoom room v)
-      (sym (ap (λ (k : List ℕ). value_at end k) (sym same) ∙ ap (λ (e : KeysOf N). value_at e key) ends ∙ none)) (omega (arith, fits))
