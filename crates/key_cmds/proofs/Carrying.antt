@@ -227,9 +227,9 @@ on_err : {T E : Type 0} {P Q R : Type 0} (r : Result T E) → (P → Q → R) �
 on_err (Ok x) f h k = h
 on_err (Err e) f h k = f h k
 
-err_map : {T E : Type 0} {P Q : Type 0} (r : Result T E) → (P → Q) → OnErr r P → OnErr r Q
-err_map (Ok x) f h = h
-err_map (Err e) f h = f h
+pub err_of : {T E : Type 0} {P : Type 0} (r : Result T E) → P → OnErr r P
+err_of (Ok x) p = tt
+err_of (Err e) p = p
 
 ok_map : {T E : Type 0} (r : Result T E) (P Q : T → Type 0) → ((x : T) → P x → Q x) → IfOk r P → IfOk r Q
 ok_map (Ok x) P Q f p = f x p

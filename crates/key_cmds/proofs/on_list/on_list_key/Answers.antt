@@ -9,7 +9,7 @@ use Rattle.key_cmds.specs.OneKey.{list_done}
 use Rattle.key_cmds.specs.declared.plain.Plain.TheVariants as plain
 use Rattle.key_cmds.specs.inner.Plain.{done_of}
 use Rattle.key_cmds.specs.inner.Settling.{HasRoom}
-use Rattle.key_cmds.proofs.Carrying.{absent_does, done_err, done_keys, done_left, done_told, lent_does, lent_value}
+use Rattle.key_cmds.proofs.Carrying.{absent_does, done_err, done_keys, done_left, done_told, err_of, lent_does, lent_same, lent_value}
 use Rattle.key_cmds.proofs.on_list.on_list_key.Goals as goal
 
 pub settle-requires-clause-there : goal.settle-requires-clause-there
@@ -83,4 +83,13 @@ returns-in_ok-run-in-None g c =
     }
 
 pub returns-in_err-outcome-in-Some-clause-err : goal.returns-in_err-outcome-in-Some-clause-err
-returns-in_err-outcome-in-Some-clause-err g c = ?
+returns-in_err-outcome-in-Some-clause-err g c =
+    let lent = c.get_mut in
+    let key = c.word.result.now in
+    let old = c.args.keys.now in
+    let left = c.list_outcome.new.held in
+    let mid = lent.follows.lender left in
+    let ends = subst (λ o. OnSome o (mid ≡ with_changed old key left)) c.in-Some.is (lent.follows.holds left) in
+    let has = sym lent.ensures.value ∙ ap option_copied_mut c.in-Some.is in
+    err_of c.from_residual.result
+    (lent_same key key refl old mid c.in-Some.held.now left has ends c.in_err-outcome-in-Some.ensures.err, c.list_outcome.ensures.same)
