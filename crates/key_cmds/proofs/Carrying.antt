@@ -1,8 +1,6 @@
 -- How what a command does to one value is carried to the keys. Serves the clauses of the commands
 -- on one key.
-use Rattle.std.proofs.Common.{◌≡◌, ℕ, List, [], ◌++◌, Result, Ok, Err, IfOk, OnOk, OnErr, Option, Some, None, unwrap_or, ◌≤◌, vec_len, vec_capacity, refl, sym, ap, subst, ◌∙◌, arith}
-use Rattle.std.specs.declared.alloc.Global.{Global}
-use Rattle.std.specs.declared.vec.Vec.{Vec}
+use Rattle.std.proofs.Common.{◌≡◌, ℕ, List, [], ◌++◌, Result, Ok, Err, IfOk, OnOk, OnErr, Option, Some, None, unwrap_or, refl, sym, ap, subst, ◌∙◌}
 use Rattle.std.proofs.lemmas.Option.{none-some}
 use Rattle.core_types.specs.Done.{Change, Does, Done, Makes}
 use Rattle.core_types.specs.Keys.{KeysOf, value_at, with_changed, with_value, deadline_at}
@@ -17,7 +15,7 @@ use Rattle.key_cmds.specs.declared.plain.Plain.{Plain}
 use Rattle.key_cmds.specs.declared.plain.Plain.TheVariants as plain
 use Rattle.key_cmds.specs.declared.ran.Ran.{Ran}
 use Rattle.key_cmds.specs.inner.Plain.{after_of, change_of, done_of, outcome_of, value_of}
-use Rattle.key_cmds.specs.inner.Settling.{DoesToKeys, DoesToValue, HasRoom, MakesOfKeys, MakesOfValue, Puts, Tells, leaving, settled}
+use Rattle.key_cmds.specs.inner.Settling.{DoesToKeys, DoesToValue, MakesOfKeys, MakesOfValue, Puts, Tells, leaving, settled}
 use Rattle.key_cmds.proofs.OneKeyOf.{changed_same, new_value, value_changed, without_entry}
 
 -- a change that at most sets its key

@@ -11,3 +11,4 @@ pub mod LimitsOfNatives
 pub mod OneRemade
 pub mod SeveralRemade
 pub mod Remade
+pub mod Counted

@@ -1,6 +1,6 @@
 //! The commands on the moment at which a key is due, and the removal of a key that is due.
 
-ghost use Rattle.std.specs.Prelude.{◌≡◌, ◌++◌, [], pos, negsuc, length, None, Some, IsSome, is_some, IfOk, OnOk, OnErr, if◌then◌else◌};
+ghost use Rattle.std.specs.Prelude.{◌≡◌, ◌<◌, ◌++◌, [], pos, negsuc, length, None, Some, IsSome, is_some, IfOk, IfSome, OnOk, OnErr, if◌then◌else◌};
 ghost use Rattle.std.specs.Option.{option_map};
 ghost use Rattle.core_types.specs.Keys.{value_at};
 ghost use Rattle.key_cmds.specs.Deadlines.{delete_effect, expire, expire_at, expire_when, expired_note, expires_now, first_expired, gets_deadline, is_past, milliseconds_told, moment_of, persist, seconds_left, tell_left};
@@ -144,7 +144,8 @@ fn expire_at<N>(
 
 // The deadline, where it is not past.
 fn later(deadline: i64, moment: u64) -> Option<u64>
-    ensures { result ≡ (if is_past deadline moment then None else Some (moment_of deadline)) }
+    ensures later { result ≡ (if is_past deadline moment then None else Some (moment_of deadline)) }
+    ensures positive { IfSome result (λ later. 0 < later) }
 {
     match u64::try_from(deadline) {
         Ok(deadline) if deadline > moment => Some(deadline),
@@ -158,7 +159,8 @@ fn set_deadline<N>(
     key: &[u8],
     deadline: u64,
 ) -> Result<Ran, NoMemory>
-    requires { IsSome (value_at keys.old key.now) }
+    requires there { IsSome (value_at keys.old key.now) }
+    requires positive { 0 < deadline }
     ensures keys { OnOk result (keys.new ≡ (gets_deadline key.now deadline keys.old).keys) }
     ensures told { IfOk result (λ ran. ran ≡ told (gets_deadline key.now deadline keys.old)) }
     ensures err { OnErr result (keys.new ≡ keys.old) }

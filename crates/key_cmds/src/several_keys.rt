@@ -2,11 +2,12 @@
 
 ghost use Rattle.std.specs.Prelude.{◌≡◌, ◌≤◌, ◌<◌, ◌^◌, [], ◌∷◌, ◌++◌, codes, length, filter, map, IfOk, OnOk, OnErr};
 ghost use Rattle.std.specs.Option.{option_copied};
+ghost use Rattle.core_types.specs.Answers.{several};
 ghost use Rattle.core_types.specs.Done.{own_words};
 ghost use Rattle.sequences.specs.Words.{word};
 ghost use Rattle.core_types.specs.Keys.{value_at};
 ghost use Rattle.key_cmds.specs.Run.{told};
-ghost use Rattle.key_cmds.specs.SeveralKeys.{count, exists, generic_note, get_each, is_there, ok, rename, several, string_in, tell_type, type_of};
+ghost use Rattle.key_cmds.specs.SeveralKeys.{count, exists, generic_note, get_each, is_there, ok, rename, string_in, tell_type, type_of};
 
 use crate::ran::{generic_note, ok, own_change};
 use crate::settling::{hand_over, make_room};

@@ -1,5 +1,5 @@
 -- Serves the clauses of on_string_key.
-use Rattle.std.proofs.Common.{◌≡◌, ◌∙◌, None, Some, Option, refl, sym, ap, subst}
+use Rattle.std.proofs.Common.{◌≡◌, ◌∙◌, None, Option, refl, sym, ap, subst}
 use Rattle.std.specs.Option.{OnSome, is_some, option_copied_mut}
 use Rattle.core_types.specs.Keys.{value_at, with_changed}
 use Rattle.core_types.specs.declared.value.Value.{Value}

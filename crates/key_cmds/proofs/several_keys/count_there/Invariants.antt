@@ -6,5 +6,5 @@ use Rattle.key_cmds.proofs.several_keys.count_there.Given as goal
 abbrev pub invariant-loop-name : goal.invariant-loop-name
 invariant-loop-name g l =
     (l.count + length (filter (is_there l.keys) l.name-iterator)
-      ≡ length (filter (is_there l.keys) l.fn.names) + length l.name-iterator)
+    ≡ length (filter (is_there l.keys) l.fn.names) + length l.name-iterator)
     × (l.count < 2 ^ 63)
