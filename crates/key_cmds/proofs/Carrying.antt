@@ -1,8 +1,6 @@
 -- How what a command does to one value is carried to the keys. Serves the clauses of the commands
 -- on one key.
-use Rattle.std.proofs.Common.{◌≡◌, ℕ, List, [], ◌++◌, Result, Ok, Err, IfOk, OnOk, OnErr, Option, Some, None, unwrap_or, ◌≤◌, vec_len, vec_capacity, refl, sym, ap, subst, ◌∙◌, arith}
-use Rattle.std.specs.declared.alloc.Global.{Global}
-use Rattle.std.specs.declared.vec.Vec.{Vec}
+use Rattle.std.proofs.Common.{◌≡◌, ℕ, List, [], ◌++◌, Result, Ok, Err, IfOk, OnOk, OnErr, Option, Some, None, unwrap_or, refl, sym, ap, subst, ◌∙◌}
 use Rattle.std.proofs.lemmas.Option.{none-some}
 use Rattle.core_types.specs.Done.{Change, Does, Done, Makes}
 use Rattle.core_types.specs.Keys.{KeysOf, value_at, with_changed, with_value, deadline_at}
@@ -17,7 +15,7 @@ use Rattle.key_cmds.specs.declared.plain.Plain.{Plain}
 use Rattle.key_cmds.specs.declared.plain.Plain.TheVariants as plain
 use Rattle.key_cmds.specs.declared.ran.Ran.{Ran}
 use Rattle.key_cmds.specs.inner.Plain.{after_of, change_of, done_of, outcome_of, value_of}
-use Rattle.key_cmds.specs.inner.Settling.{DoesToKeys, DoesToValue, HasRoom, MakesOfKeys, MakesOfValue, Puts, Tells, leaving, settled}
+use Rattle.key_cmds.specs.inner.Settling.{DoesToKeys, DoesToValue, MakesOfKeys, MakesOfValue, Puts, Tells, leaving, settled}
 use Rattle.key_cmds.proofs.OneKeyOf.{changed_same, new_value, value_changed, without_entry}
 
 -- a change that at most sets its key
@@ -227,9 +225,9 @@ on_err : {T E : Type 0} {P Q R : Type 0} (r : Result T E) → (P → Q → R) �
 on_err (Ok x) f h k = h
 on_err (Err e) f h k = f h k
 
-err_map : {T E : Type 0} {P Q : Type 0} (r : Result T E) → (P → Q) → OnErr r P → OnErr r Q
-err_map (Ok x) f h = h
-err_map (Err e) f h = f h
+pub err_of : {T E : Type 0} {P : Type 0} (r : Result T E) → P → OnErr r P
+err_of (Ok x) p = tt
+err_of (Err e) p = p
 
 ok_map : {T E : Type 0} (r : Result T E) (P Q : T → Type 0) → ((x : T) → P x → Q x) → IfOk r P → IfOk r Q
 ok_map (Ok x) P Q f p = f x p
@@ -260,25 +258,20 @@ module _ {N B : Type 0} (of : B → Plain) (r : Result Ran NoMemory) (key at : L
 -- Where the key is there, its value is lent to the command, and what becomes of the value becomes
 -- of the key.
 module _ {N : Type 0} (key at : List ℕ) (same : key ≡ at) (keys end : KeysOf N) where
-  pub lent_does : (r : Result (Outcome Plain) NoMemory) (held left : Value N) (done : Option (Value N) → Done Plain) → value_at keys key ≡ Some held → end ≡ with_changed keys key left
-      → IfOk r (λ o. DoesToValue o held left (done (Some held))) → IfOk r (λ o. DoesToKeys at o keys end (done (value_at keys at)))
-  lent_does r held left done has ends h =
-      ok_map r _ _
-      (λ o does.
+  pub lent_does : (o : Outcome Plain) (held left : Value N) (done : Option (Value N) → Done Plain) → value_at keys key ≡ Some held → end ≡ with_changed keys key left
+      → DoesToValue o held left (done (Some held)) → DoesToKeys at o keys end (done (value_at keys at))
+  lent_does o held left done has ends does =
       subst (λ (k : List ℕ). DoesToKeys k o keys end (done (value_at keys k))) same
       (subst (λ (e : KeysOf N). DoesToKeys key o keys e (done (value_at keys key))) (sym ends)
       (subst (λ (v : Option (Value N)). DoesToKeys key o keys (with_changed keys key left) (done v)) (sym has)
-      (does_to_keys key o keys held left (done (Some held)) has does)))) h
+      (does_to_keys key o keys held left (done (Some held)) has does)))
 
-  pub lent_room : (r : Result (Outcome Plain) NoMemory) (room : Vec N Global) (left : Value N) → end ≡ with_changed keys key left
-      → OnOk r (HasRoom room (Some left)) → OnOk r (HasRoom room (value_at end at))
-  lent_room r room left ends h =
-      on_ok r (λ (fits : HasRoom room (Some left)). subst (λ (v : Option (Value N)). HasRoom room v)
-      (sym (ap (λ (k : List ℕ). value_at end k) (sym same) ∙ ap (λ (e : KeysOf N). value_at e key) ends ∙ value_changed keys key left)) fits) h
+  pub lent_value : (left : Value N) → end ≡ with_changed keys key left → value_at end at ≡ Some left
+  lent_value left ends =
+      ap (λ (k : List ℕ). value_at end k) (sym same) ∙ ap (λ (e : KeysOf N). value_at e key) ends ∙ value_changed keys key left
 
-  pub lent_err : (r : Result (Outcome Plain) NoMemory) (held left : Value N) → value_at keys key ≡ Some held → end ≡ with_changed keys key left
-      → OnErr r (left ≡ held) → OnErr r (end ≡ keys)
-  lent_err r held left has ends h = err_map r (λ e. ends ∙ ap (with_changed keys key) e ∙ changed_same keys key held has) h
+  pub lent_same : (held left : Value N) → value_at keys key ≡ Some held → end ≡ with_changed keys key left → left ≡ held → end ≡ keys
+  lent_same held left has ends kept = ends ∙ ap (with_changed keys key) kept ∙ changed_same keys key held has
 
   pub absent_does : {B : Type 0} (of : B → Plain) (o : Outcome B) (made : Outcome Plain) (row : Done B) (done : Option (Value N) → Done Plain) → value_at keys key ≡ None → end ≡ keys
       → made ≡ outcome_of of o → done None ≡ done_of of row → Does o None None row → DoesToKeys at made keys end (done (value_at keys at))
@@ -287,8 +280,3 @@ module _ {N : Type 0} (key at : List ℕ) (same : key ≡ at) (keys end : KeysOf
       (subst (λ (e : KeysOf N). DoesToKeys key made keys e (done (value_at keys key))) (sym ends)
       (subst (λ (d : Done Plain). DoesToKeys key made keys keys d) (sym (ap done none ∙ rows))
       (subst (λ (m : Outcome Plain). DoesToKeys key m keys keys (done_of of row)) (sym is) (does_on_new of key o keys row none does))))
-
-  pub absent_room : (room : Vec N Global) → value_at keys key ≡ None → end ≡ keys → vec_len room ≤ vec_capacity room → HasRoom room (value_at end at)
-  absent_room room none ends fits =
-      subst (λ (v : Option (Value N)). HasRoom room v)
-      (sym (ap (λ (k : List ℕ). value_at end k) (sym same) ∙ ap (λ (e : KeysOf N). value_at e key) ends ∙ none)) (omega (arith, fits))

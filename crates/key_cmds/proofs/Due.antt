@@ -1,5 +1,5 @@
 -- What a key has of a deadline. Serves the clauses of the commands on deadlines.
-use Rattle.std.proofs.Common.{◌≡◌, ◌≢◌, ℕ, ℤ, pos, negsuc, Bool, true, false, List, [], Option, Some, None, is_some, unwrap_or, if◌then◌else◌, refl, sym, ap, ◌∙◌, FitsSigned}
+use Rattle.std.proofs.Common.{◌≡◌, ◌≢◌, ◌<◌, arith, ℕ, ℤ, pos, negsuc, Bool, true, false, List, [], Option, Some, None, is_some, unwrap_or, if◌then◌else◌, refl, sym, ap, ◌∙◌, FitsSigned}
 use Rattle.std.specs.Prelude.{◌+ℤ◌, ◌*ℤ◌}
 use Rattle.std.specs.Int.{w64}
 use Rattle.std.proofs.lemmas.Option.{none-some}
@@ -12,6 +12,11 @@ use Rattle.core_types.specs.declared.reply.Reply.TheVariants as reply
 use Rattle.key_cmds.specs.Deadlines.{deadline_told, due_at, expire, expire_at, expires_now, gets_deadline, is_past, left_told, moment_of, persist, persists}
 use Rattle.key_cmds.specs.Run.{Run, answers}
 use Rattle.key_cmds.proofs.OneKeyOf.{no_entry}
+
+pub not_zero : (n : ℕ) → 0 < n → Some n ≢ Some 0
+not_zero n above same =
+    let zero : n ≡ 0 = ap (λ o. unwrap_or o 0) same in
+    absurd (omega (arith, above, zero))
 
 module _ {N : Type 0} where
   -- ---- EXPIRE

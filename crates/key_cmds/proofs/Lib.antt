@@ -2,7 +2,7 @@ pub mod OneKeyOf
 pub mod Carrying
 pub mod Others
 pub mod Removing
-pub mod Pairs
+pub mod PairsSet
 pub mod Printed
 pub mod Due
 pub mod LimitsOfKeys
@@ -11,3 +11,4 @@ pub mod LimitsOfNatives
 pub mod OneRemade
 pub mod SeveralRemade
 pub mod Remade
+pub mod Counted

@@ -25,7 +25,7 @@ use Rattle.core_types.specs.declared.reply.Reply.TheVariants as reply
 use Rattle.core_types.specs.declared.value.Value.{Value}
 use Rattle.core_types.specs.declared.value.Value.TheVariants as value
 use Rattle.core_types.proofs.KeyLemmas.{changed_kept, due_kept, moved_kept, removed_kept, set_kept}
-use Rattle.string_cmds.specs.Laws.{IsSmallEffect, IsWithinLimits}
+use Rattle.core_types.specs.Limits.{IsSmallEffect, IsWithinLimits}
 use Rattle.string_cmds.specs.Laws as string_laws
 use Rattle.string_cmds.specs.Rows as string_rows
 use Rattle.string_cmds.specs.declared.command.StringCmd.{StringCmd}
@@ -48,12 +48,11 @@ use Rattle.key_cmds.specs.Laws.{KeepsLimits}
 use Rattle.key_cmds.specs.OneKey.{hash_done, list_done, on_hash, on_key, on_list, on_string, string_done, with_change}
 use Rattle.key_cmds.specs.Rows.{does}
 use Rattle.key_cmds.specs.Run.{Run, answers}
-use Rattle.key_cmds.specs.SeveralKeys.{Removed, delete, goes_first, is_odd, is_there, moves, pairs_of, removed, rename, rename_there, set_each, sets, with_pairs}
+use Rattle.key_cmds.specs.SeveralKeys.{Pair, Removed, delete, goes_first, is_odd, is_there, moves, pairs_of, removed, rename, rename_there, set_each, sets, with_pairs}
 use Rattle.key_cmds.specs.declared.command.Command.{Command}
 use Rattle.key_cmds.specs.declared.command.Command.TheVariants as command
 use Rattle.key_cmds.specs.declared.command.KeyCmd.{KeyCmd}
 use Rattle.key_cmds.specs.declared.command.KeyCmd.TheVariants as key
-use Rattle.key_cmds.specs.declared.pair.Pair.{Pair}
 
 -- ---- words, and what is made of them
 
@@ -104,22 +103,6 @@ later_moment (pos n) moment fits later =
     let above : moment < n = grind (arith, nat_tests) in
     (omega (arith, above), omega (arith, ints, fits))
 later_moment (negsuc n) moment fits later = absurd (true≢false later)
-
--- ---- the limits of the crates below
-
-for_list : (words : List (List ℕ)) → IsWithinLimits words → list_laws.IsWithinLimits words
-for_list words h = record { some = h.some; few = h.few; each = h.each }
-
-for_hash : (words : List (List ℕ)) → IsWithinLimits words → hash_laws.IsWithinLimits words
-for_hash words h = record { some = h.some; few = h.few; each = h.each }
-
-list_effects : (effects : List Effect) → AllByRecursion list_laws.IsSmallEffect effects → AllByRecursion IsSmallEffect effects
-list_effects [] h = tt
-list_effects (effect ∷ effects) h = (record { some = h.0.some; few = h.0.few; each = h.0.each }, list_effects effects h.1)
-
-hash_effects : (effects : List Effect) → AllByRecursion hash_laws.IsSmallEffect effects → AllByRecursion IsSmallEffect effects
-hash_effects [] h = tt
-hash_effects (effect ∷ effects) h = (record { some = h.0.some; few = h.0.few; each = h.0.each }, hash_effects effects h.1)
 
 module _ {N : Type 0} (allowed : N → Bool) where
   -- ---- a command on one key
@@ -190,7 +173,7 @@ module _ {N : Type 0} (allowed : N → Bool) where
   list_change old Change.Goes h = tt
 
   list_by : (old : Option (List (List ℕ))) (done : Done (List (List ℕ))) → list_laws.KeepsLimits old done → IsSmall value.List done
-  list_by old done h = record { change = list_change old done.change h.value; effects = list_effects done.effects h.effects }
+  list_by old done h = record { change = list_change old done.change h.value; effects = h.effects }
 
   list_other : (cmd : ListCmd) (words : List (List ℕ)) → IsSmall value.List (list_rows.other_row cmd words)
   list_other cmd words =
@@ -201,8 +184,8 @@ module _ {N : Type 0} (allowed : N → Bool) where
       }
 
   list_small : (cmd : ListCmd) (held : Option (Value N)) (words : List (List ℕ)) → MeetArity (list_commands.command_row cmd) words → IsHeld held → IsWithinLimits words → IsSmall value.List (list_done cmd held words)
-  list_small cmd None words arity held h = list_by None (list_rows.row cmd None words) (list_proofs.row_keeps cmd None words arity tt (for_list words h))
-  list_small cmd (Some (value.List items)) words arity held h = list_by (Some items) (list_rows.row cmd (Some items) words) (list_proofs.row_keeps cmd (Some items) words arity held (for_list words h))
+  list_small cmd None words arity held h = list_by None (list_rows.row cmd None words) (list_proofs.row_keeps cmd None words arity tt h)
+  list_small cmd (Some (value.List items)) words arity held h = list_by (Some items) (list_rows.row cmd (Some items) words) (list_proofs.row_keeps cmd (Some items) words arity held h)
   list_small cmd (Some (value.Str text)) words arity held h = list_other cmd words
   list_small cmd (Some (value.Hash fields)) words arity held h = list_other cmd words
   list_small cmd (Some (value.Native native)) words arity held h = list_other cmd words
@@ -222,7 +205,7 @@ module _ {N : Type 0} (allowed : N → Bool) where
   hash_change old Change.Goes h = tt
 
   hash_by : (old : Option (List Field)) (done : Done (List Field)) → hash_laws.KeepsLimits old done → IsSmall value.Hash done
-  hash_by old done h = record { change = hash_change old done.change h.value; effects = hash_effects done.effects h.effects }
+  hash_by old done h = record { change = hash_change old done.change h.value; effects = h.effects }
 
   hash_other : (cmd : HashCmd) (words : List (List ℕ)) → IsSmall value.Hash (hash_rows.other_row cmd words)
   hash_other cmd words =
@@ -233,8 +216,8 @@ module _ {N : Type 0} (allowed : N → Bool) where
       }
 
   hash_small : (cmd : HashCmd) (held : Option (Value N)) (words : List (List ℕ)) → MeetArity (hash_commands.command_row cmd) words → IsHeld held → IsWithinLimits words → IsSmall value.Hash (hash_done cmd held words)
-  hash_small cmd None words arity held h = hash_by None (hash_rows.row cmd None words) (hash_proofs.row_keeps cmd None words arity tt (for_hash words h))
-  hash_small cmd (Some (value.Hash fields)) words arity held h = hash_by (Some fields) (hash_rows.row cmd (Some fields) words) (hash_proofs.row_keeps cmd (Some fields) words arity held (for_hash words h))
+  hash_small cmd None words arity held h = hash_by None (hash_rows.row cmd None words) (hash_proofs.row_keeps cmd None words arity tt h)
+  hash_small cmd (Some (value.Hash fields)) words arity held h = hash_by (Some fields) (hash_rows.row cmd (Some fields) words) (hash_proofs.row_keeps cmd (Some fields) words arity held h)
   hash_small cmd (Some (value.Str text)) words arity held h = hash_other cmd words
   hash_small cmd (Some (value.List items)) words arity held h = hash_other cmd words
   hash_small cmd (Some (value.Native native)) words arity held h = hash_other cmd words

@@ -37,12 +37,11 @@ use Rattle.key_cmds.specs.Laws.{KeepsNatives, StayOrLeave, natives}
 use Rattle.key_cmds.specs.OneKey.{hash_done, left_by, list_done, string_done, with_change}
 use Rattle.key_cmds.specs.Rows.{does}
 use Rattle.key_cmds.specs.Run.{Run, answers, native_in}
-use Rattle.key_cmds.specs.SeveralKeys.{Removed, goes_first, is_odd, is_there, left_by_pairs, moves, pairs_of, removed, rename, rename_there, set_each, sets, with_pairs}
+use Rattle.key_cmds.specs.SeveralKeys.{Pair, Removed, goes_first, is_odd, is_there, left_by_pairs, moves, pairs_of, removed, rename, rename_there, set_each, sets, with_pairs}
 use Rattle.key_cmds.specs.declared.command.Command.{Command}
 use Rattle.key_cmds.specs.declared.command.Command.TheVariants as command
 use Rattle.key_cmds.specs.declared.command.KeyCmd.{KeyCmd}
 use Rattle.key_cmds.specs.declared.command.KeyCmd.TheVariants as key
-use Rattle.key_cmds.specs.declared.pair.Pair.{Pair}
 use Rattle.key_cmds.proofs.Carrying.{OnlySets}
 use Rattle.key_cmds.proofs.OneKeyOf.{changed_same, without_absent}
 use Rattle.key_cmds.proofs.Others.{hash_only, list_only, string_only}

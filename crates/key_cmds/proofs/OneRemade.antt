@@ -31,16 +31,12 @@ use Rattle.hash_cmds.proofs.Told as hash_told
 use Rattle.key_cmds.specs.declared.command.Command.{Command}
 use Rattle.key_cmds.specs.declared.command.Command.TheVariants as command
 use Rattle.key_cmds.specs.Commands.{command_row}
-use Rattle.key_cmds.specs.Laws.{ChangesAtMostOnce, ChangesNothing, ChangesOnce, IsRefusal}
+use Rattle.key_cmds.specs.Laws.{ChangesAtMostOnce, ChangesNothing, ChangesOnce}
+use Rattle.core_types.specs.Refusals.{IsRefusal}
+use Rattle.core_types.specs.CommandLaws as every
 use Rattle.key_cmds.specs.OneKey.{hash_done, left_by, list_done, on_hash, on_key, on_list, on_string, string_done, with_change}
 use Rattle.key_cmds.specs.Rows.{does}
 use Rattle.key_cmds.specs.Run.{Run}
-
--- nothing is done to a key
-pub record DoesNothing {B : Type 0} (done : Done B) : Type 0 where
-  pub change : done.change ≡ Change.Stays
-  pub effects : done.effects ≡ []
-  pub notes : done.notes ≡ []
 
 -- what was done to a key that had `held` is a change that one effect makes again
 pub record IsDoneAgain {N B : Type 0} (type_name : N → List ℕ) (made : B → Value N) (held : Option (Value N))
@@ -63,7 +59,7 @@ pub record IsDoneAgain {N B : Type 0} (type_name : N → List ℕ) (made : B →
 
 -- a command on one key: the same of what it does to that key
 abbrev pub DoesAtMostOnce : {N B : Type 0} → (N → List ℕ) → (B → Value N) → Option (Value N) → List ℕ → Done B → Type 0
-DoesAtMostOnce type_name made held key done = DoesNothing done ⊎ IsDoneAgain type_name made held key done
+DoesAtMostOnce type_name made held key done = every.ChangesNothing done ⊎ IsDoneAgain type_name made held key done
 
 writes_by : (writes : Bool) → (writes ≡ false → ⊥) → writes ≡ true
 writes_by true reads = refl
@@ -74,7 +70,7 @@ unless_stays None done stays = stays
 unless_stays (Some why) done stays = refl
 
 module _ {N B : Type 0} (type_name : N → List ℕ) (made : B → Value N) (key : List ℕ) (keys : KeysOf N) (done : Done B) where
-  pub nothing_on : DoesNothing done → ChangesNothing keys (on_key made key keys done)
+  pub nothing_on : every.ChangesNothing done → ChangesNothing keys (on_key made key keys done)
   nothing_on nothing =
       record {
         same = ap (λ change. with_change made key change keys) nothing.change;
@@ -161,7 +157,7 @@ module _ {N : Type 0} where
         }
 
     string_most : (held : Option (Value N)) (key : List ℕ) (done : Done (List ℕ)) → string_laws.ChangesAtMostOnce (λ cmd words. string_done cmd held words) key done → DoesAtMostOnce type_name value.Str held key done
-    string_most held key done (inl nothing) = inl (record { change = nothing.change; effects = nothing.effects; notes = nothing.notes })
+    string_most held key done (inl nothing) = inl nothing
     string_most held key done (inr once) = inr (string_once held key done once)
 
     string_does : (cmd : StringCmd) (held : Option (Value N)) (words : List (List ℕ)) → MeetArity (string_commands.command_row cmd) words → DoesAtMostOnce type_name value.Str held (word 1 words) (string_done cmd held words)
@@ -223,19 +219,16 @@ module _ {N : Type 0} where
           accepted_again = remakes.accepted;
         }
 
-    list_nothing : (done : Done (List (List ℕ))) → list_laws.ChangesNothing done → DoesNothing done
-    list_nothing done nothing = record { change = nothing.change; effects = nothing.effects; notes = nothing.notes }
-
     list_most : (held : Option (Value N)) (key : List ℕ) (done : Done (List (List ℕ))) → list_laws.ChangesAtMostOnce (λ cmd words. list_done cmd held words) key done → DoesAtMostOnce type_name value.List held key done
-    list_most held key done (inl nothing) = inl (list_nothing done nothing)
+    list_most held key done (inl nothing) = inl nothing
     list_most held key done (inr once) = inr (list_once held key done once)
 
     list_does : (cmd : ListCmd) (held : Option (Value N)) (words : List (List ℕ)) → MeetArity (list_commands.command_row cmd) words → DoesAtMostOnce type_name value.List held (word 1 words) (list_done cmd held words)
     list_does cmd None words arity = list_most None _ _ (list_told.row_told cmd None words arity)
-    list_does cmd (Some (value.Str text)) words arity = inl (list_nothing _ (list_told.other_told cmd words).1)
+    list_does cmd (Some (value.Str text)) words arity = inl (list_told.other_told cmd words).1
     list_does cmd (Some (value.List items)) words arity = list_most (Some (value.List items)) _ _ (list_told.row_told cmd (Some items) words arity)
-    list_does cmd (Some (value.Hash fields)) words arity = inl (list_nothing _ (list_told.other_told cmd words).1)
-    list_does cmd (Some (value.Native native)) words arity = inl (list_nothing _ (list_told.other_told cmd words).1)
+    list_does cmd (Some (value.Hash fields)) words arity = inl (list_told.other_told cmd words).1
+    list_does cmd (Some (value.Native native)) words arity = inl (list_told.other_told cmd words).1
 
     pub list_remade : (cmd : ListCmd) (keys : KeysOf N) (words : List (List ℕ)) → MeetArity (list_commands.command_row cmd) words → ChangesAtMostOnce type_name keys (on_list cmd keys words)
     list_remade cmd keys words arity =
@@ -294,19 +287,16 @@ module _ {N : Type 0} where
           accepted_again = remakes.accepted;
         }
 
-    hash_nothing : (done : Done (List Field)) → hash_laws.ChangesNothing done → DoesNothing done
-    hash_nothing done nothing = record { change = nothing.change; effects = nothing.effects; notes = nothing.notes }
-
     hash_most : (held : Option (Value N)) (key : List ℕ) (done : Done (List Field)) → hash_laws.ChangesAtMostOnce (λ cmd words. hash_done cmd held words) key done → DoesAtMostOnce type_name value.Hash held key done
-    hash_most held key done (inl nothing) = inl (hash_nothing done nothing)
+    hash_most held key done (inl nothing) = inl nothing
     hash_most held key done (inr once) = inr (hash_once held key done once)
 
     hash_does : (cmd : HashCmd) (held : Option (Value N)) (words : List (List ℕ)) → MeetArity (hash_commands.command_row cmd) words → DoesAtMostOnce type_name value.Hash held (word 1 words) (hash_done cmd held words)
     hash_does cmd None words arity = hash_most None _ _ (hash_told.row_told cmd None words arity)
-    hash_does cmd (Some (value.Str text)) words arity = inl (hash_nothing _ (hash_told.other_nothing cmd words))
-    hash_does cmd (Some (value.List items)) words arity = inl (hash_nothing _ (hash_told.other_nothing cmd words))
+    hash_does cmd (Some (value.Str text)) words arity = inl (hash_told.other_nothing cmd words)
+    hash_does cmd (Some (value.List items)) words arity = inl (hash_told.other_nothing cmd words)
     hash_does cmd (Some (value.Hash fields)) words arity = hash_most (Some (value.Hash fields)) _ _ (hash_told.row_told cmd (Some fields) words arity)
-    hash_does cmd (Some (value.Native native)) words arity = inl (hash_nothing _ (hash_told.other_nothing cmd words))
+    hash_does cmd (Some (value.Native native)) words arity = inl (hash_told.other_nothing cmd words)
 
     pub hash_remade : (cmd : HashCmd) (keys : KeysOf N) (words : List (List ℕ)) → MeetArity (hash_commands.command_row cmd) words → ChangesAtMostOnce type_name keys (on_hash cmd keys words)
     hash_remade cmd keys words arity =

@@ -18,7 +18,8 @@ use Rattle.key_cmds.specs.declared.command.KeyCmd.{KeyCmd}
 use Rattle.key_cmds.specs.declared.command.KeyCmd.TheVariants as key_command
 use Rattle.key_cmds.specs.Commands.{key_row}
 use Rattle.key_cmds.specs.Deadlines.{deadline_effect, delete_effect, due_at, expire_after, expire_at, expire_when, expire_where, expires_now, gets_deadline, persist, persists}
-use Rattle.key_cmds.specs.Laws.{ChangesAtMostOnce, ChangesNothing, ChangesOnce, IsRefusal}
+use Rattle.key_cmds.specs.Laws.{ChangesAtMostOnce, ChangesNothing, ChangesOnce}
+use Rattle.core_types.specs.Refusals.{IsRefusal}
 use Rattle.key_cmds.specs.Rows.{on_keys}
 use Rattle.key_cmds.specs.Run.{Run, answers}
 use Rattle.key_cmds.specs.SeveralKeys.{Removed, deletes, generic_note, goes_first, is_odd, is_there, moves, pairs_of, removed, rename, rename_there, set_each, sets}

@@ -1,7 +1,6 @@
 -- The commands on the keys, a row each.
 use Rattle.std.specs.Prelude.{pos, negsuc, false, codes}
-use Rattle.core_types.specs.CommandRow.{CommandRow}
-use Rattle.string_cmds.specs.Commands.{reading, writing}
+use Rattle.core_types.specs.CommandRow.{CommandRow, reading, writing}
 use Rattle.string_cmds.specs.Commands as string_commands
 use Rattle.list_cmds.specs.Commands as list_commands
 use Rattle.hash_cmds.specs.Commands as hash_commands

@@ -7,18 +7,14 @@ use Rattle.core_types.specs.CommandRow.{MeetArity}
 use Rattle.sequences.specs.Words.{word}
 use Rattle.core_types.specs.Keys.{KeysOf}
 use Rattle.core_types.specs.Keyspace.{IsKeyspace}
+use Rattle.core_types.specs.Limits.{IsSmallEffect}
+use Rattle.core_types.specs.Refusals.{IsRefusal}
 use Rattle.core_types.specs.declared.effect.Effect.{Effect}
-use Rattle.core_types.specs.declared.reply.Reply.{Reply}
-use Rattle.core_types.specs.declared.reply.Reply.TheVariants as reply
-use Rattle.string_cmds.specs.Laws.{IsSmallEffect}
 use Rattle.key_cmds.specs.declared.command.Command.{Command}
 use Rattle.key_cmds.specs.Commands.{command_row}
 use Rattle.key_cmds.specs.Deadlines.{Expired}
 use Rattle.key_cmds.specs.Run.{Run, native_in}
 use Rattle.key_cmds.specs.Rows.{does}
-
-abbrev pub IsRefusal : Reply → Type 0
-IsRefusal said = (text : List ℕ) × (said ≡ reply.Error text)
 
 module _ {N : Type 0} where
   -- the keys stay as they are, and nobody is told of anything

@@ -5,9 +5,8 @@ use Rattle.key_cmds.specs.declared.command.Command.{Command}
 use Rattle.key_cmds.specs.declared.command.Command.TheVariants as command
 use Rattle.key_cmds.specs.declared.command.KeyCmd.TheVariants as key
 use Rattle.key_cmds.specs.declared.deadlines.ExpiredKey.{ExpiredKey}
-use Rattle.key_cmds.specs.declared.pair.Pair.{Pair}
 use Rattle.key_cmds.specs.Deadlines.{Expired}
-use Rattle.key_cmds.specs.SeveralKeys.{left_by_pairs, pairs_of, with_pairs}
+use Rattle.key_cmds.specs.SeveralKeys.{Pair, left_by_pairs, pairs_of, with_pairs}
 
 -- the keys, and the list of the modules' values that left them
 pub record KeysAndLeft (N : Type 0) : Type 0 where

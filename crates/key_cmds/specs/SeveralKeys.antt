@@ -1,13 +1,12 @@
 -- The commands on keys of any kind, after the Redis command reference: DEL, EXISTS, TYPE, RENAME,
 -- DBSIZE, MGET and MSET.
-use Rattle.std.specs.Prelude.{ℕ, pos, ◌%◌, ◌==◌, Bool, if◌then◌else◌, List, [], ◌∷◌, ◌++◌, length, map, flat_map, drop, filter, codes, Option, Some, None, is_some}
+use Rattle.std.specs.Prelude.{ℕ, pos, ◌%◌, ◌==◌, Bool, if◌then◌else◌, List, [], ◌∷◌, ◌++◌, length, map, drop, filter, codes, Option, Some, None, is_some}
 use Rattle.std.specs.Str.{bytes_eq}
 use Rattle.core_types.specs.Done.{own_words}
 use Rattle.sequences.specs.Words.{word}
 use Rattle.core_types.specs.Keys.{KeysOf, value_at, with_value, without, renamed, key_count}
-use Rattle.core_types.specs.Parts.{parts_of}
+use Rattle.core_types.specs.Answers.{several}
 use Rattle.core_types.specs.Refusals.{wrong_arity}
-use Rattle.core_types.specs.Several.{Several}
 use Rattle.core_types.specs.declared.note.Note.{Note}
 use Rattle.core_types.specs.declared.note.NoteClass.TheVariants as class
 use Rattle.core_types.specs.declared.refusal.Refusal.TheVariants as refusal
@@ -15,8 +14,12 @@ use Rattle.core_types.specs.declared.reply.Reply.{Reply}
 use Rattle.core_types.specs.declared.reply.Reply.TheVariants as reply
 use Rattle.core_types.specs.declared.value.Value.{Value}
 use Rattle.core_types.specs.declared.value.Value.TheVariants as value
-use Rattle.key_cmds.specs.declared.pair.Pair.{Pair}
 use Rattle.key_cmds.specs.Run.{Run, answers, native_in, refuses}
+
+-- a key, and the string that it is to have
+pub record Pair : Type 0 where
+  pub key : List ℕ
+  pub value : List ℕ
 
 abbrev pub ok : Reply
 ok = reply.Simple (codes "OK")
@@ -26,10 +29,6 @@ generic_note name key = record { class = class.Generic; name = name; key = key }
 
 abbrev pub set_note : Pair → Note
 set_note pair = record { class = class.String; name = codes "set"; key = pair.key }
-
--- replies in an array
-abbrev pub several : List Reply → Several
-several replies = record { count = length replies; parts = flat_map parts_of replies }
 
 -- the words two by two; a last one without another is left out
 abbrev pub pairs_of : List (List ℕ) → List Pair

@@ -42,13 +42,13 @@ pub fn expire_first<N>(
     let Some(due) = keys.next_due(moment) else {
         return Ok(None);
     };
-    let key = Blob::from_slice(alloc, due)?;
     let expired = ExpiredKey {
-        effect: delete_effect(alloc, key.as_slice())?,
-        note: expired_note(alloc, key.as_slice())?,
+        effect: delete_effect(alloc, due)?,
+        note: expired_note(alloc, due)?,
     };
-    make_room(keys.get(key.as_slice()), left)?;
-    hand_over(keys.take(key.as_slice()), left);
+    let key = expired.note.key.as_slice();
+    make_room(keys.get(key), left)?;
+    hand_over(keys.take(key), left);
     Ok(Some(expired))
 }
 
@@ -67,8 +67,8 @@ fn delete_effect(alloc: Global, key: &[u8]) -> Result<Effect, NoMemory>
     ensures { IfOk result (λ effect. effect ≡ delete_effect key.now) }
 {
     let mut words = Args::new(alloc);
-    words.push(Blob::from_slice(alloc, b"DEL")?)?;
-    words.push(Blob::from_slice(alloc, key)?)?;
+    words.push(b"DEL")?;
+    words.push(key)?;
     Ok(Effect { words })
 }
 
@@ -144,9 +144,8 @@ fn expire_at<N>(
 
 // The deadline, where it is not past.
 fn later(deadline: i64, moment: u64) -> Option<u64>
-    ensures later { result
-        ≡ (if is_past deadline moment then None else Some (moment_of deadline)) }
-    ensures positive { IfSome result (λ deadline. 0 < deadline) }
+    ensures later { result ≡ (if is_past deadline moment then None else Some (moment_of deadline)) }
+    ensures positive { IfSome result (λ later. 0 < later) }
 {
     match u64::try_from(deadline) {
         Ok(deadline) if deadline > moment => Some(deadline),

@@ -11,7 +11,7 @@ ghost use Rattle.key_cmds.specs.inner.Settling.{HasRoom};
 use crate::Ran;
 use crate::ran::{counted, generic_note, own_change};
 use crate::settling::hand_over;
-use core_types::{Args, Blob, NoMemory, Note, Notes, Reply, Sequence, Value};
+use core_types::{Args, NoMemory, Note, Notes, Reply, Sequence, Value, Words};
 use key_store::KeyStore;
 use std::alloc::Global;
 use std::collections::VecDeque;
@@ -39,7 +39,7 @@ pub(crate) fn delete<N>(
         (left.new.items ≡ left.old.items ++ (delete keys.old words.now).left) }
     ensures err { OnErr result ((keys.new ≡ keys.old) × (left.new.items ≡ left.old.items)) }
 {
-    let Found { notes, natives } = find(alloc, keys, &words.as_slice()[1..])?;
+    let Found { notes, natives } = find(alloc, keys, words.from_place(1))?;
     if notes.is_empty() {
         return Ok(Ran::answer(alloc, Reply::Int(0)));
     }
@@ -54,17 +54,17 @@ pub(crate) fn delete<N>(
     })
 }
 
-fn find<N>(alloc: Global, keys: &KeyStore<N>, names: &[Blob]) -> Result<Found, NoMemory>
-    ensures notes { IfOk result (λ found. found.notes.items ≡ notes_named keys.now names.now) }
+fn find<N>(alloc: Global, keys: &KeyStore<N>, names: Words<'_>) -> Result<Found, NoMemory>
+    ensures notes { IfOk result (λ found. found.notes.items ≡ notes_named keys.now names.entry) }
     ensures natives { IfOk result
-        (λ found. found.natives ≡ length (natives_named keys.now names.now)) }
+        (λ found. found.natives ≡ length (natives_named keys.now names.entry)) }
 {
     let mut found = Found {
         notes: Vec::new(alloc),
         natives: 0,
     };
     for name in names {
-        found.add(alloc, name.as_slice(), keys.get(name.as_slice()))?;
+        found.add(alloc, name, keys.get(name))?;
     }
     Ok(found)
 }
@@ -77,11 +77,12 @@ impl Found {
         name: &[u8],
         held: Option<&Value<N>>,
     ) -> Result<(), NoMemory>
-        requires { self.old.natives < 2 ^ 63 }
+        requires { self.old.natives ≤ vec_len self.old.notes }
         ensures notes { OnOk result (self.new.notes.items
             ≡ self.old.notes.items ++ where_there (del_note name.now) (option_copied held.entry)) }
         ensures natives { OnOk result
             (self.new.natives ≡ self.old.natives + length (native_in (option_copied held.entry))) }
+        ensures few { OnOk result (self.new.natives ≤ vec_len self.new.notes) }
     {
         let Some(value) = held else {
             return Ok(());

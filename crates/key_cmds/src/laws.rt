@@ -3,9 +3,10 @@
 ghost use Rattle.std.specs.Prelude.{◌≡◌, ◌≢◌, ℕ, List, false};
 ghost use Rattle.core_types.specs.CommandRow.{MeetArity};
 ghost use Rattle.core_types.specs.Keys.{KeysOf};
+ghost use Rattle.core_types.specs.Refusals.{IsRefusal};
 ghost use Rattle.key_cmds.specs.declared.command.Command.{Command};
 ghost use Rattle.key_cmds.specs.Commands.{command_row};
-ghost use Rattle.key_cmds.specs.Laws.{ChangesAtMostOnce, ChangesNothing, IsRefusal};
+ghost use Rattle.key_cmds.specs.Laws.{ChangesAtMostOnce, ChangesNothing};
 ghost use Rattle.key_cmds.specs.Rows.{does};
 
 use crate::{Command, KeyCmd};

@@ -23,7 +23,7 @@ mod module_value;
 mod on_hash;
 mod on_list;
 mod on_string;
-mod pair;
+mod pairs;
 mod plain;
 mod ran;
 mod running;

@@ -4,7 +4,7 @@ ghost use Rattle.std.specs.Prelude.{ℕ, Bool, List, IfSome};
 ghost use Rattle.core_types.specs.CommandRow.{MeetArity};
 ghost use Rattle.core_types.specs.Keys.{KeysOf};
 ghost use Rattle.core_types.specs.Keyspace.{IsKeyspace};
-ghost use Rattle.string_cmds.specs.Laws.{IsWithinLimits};
+ghost use Rattle.core_types.specs.Limits.{IsWithinLimits};
 ghost use Rattle.key_cmds.specs.declared.command.Command.{Command};
 ghost use Rattle.key_cmds.specs.Commands.{command_row};
 ghost use Rattle.key_cmds.specs.Deadlines.{first_expired};

@@ -2,14 +2,12 @@
 
 ghost use Rattle.std.specs.Prelude.{◌≡◌, ◌++◌, Some, IfOk, OnOk, OnErr};
 ghost use Rattle.core_types.specs.CommandRow.{MeetArity};
-ghost use Rattle.sequences.specs.Words.{word};
-ghost use Rattle.core_types.specs.Keys.{value_at};
 ghost use Rattle.list_cmds.specs.Commands as list_commands;
 ghost use Rattle.key_cmds.specs.OneKey.{on_list, list_done};
 ghost use Rattle.key_cmds.specs.Run.{told};
 ghost use Rattle.key_cmds.specs.declared.plain.Plain.TheVariants as plain;
 ghost use Rattle.key_cmds.specs.inner.Plain.{done_of};
-ghost use Rattle.key_cmds.specs.inner.Settling.{DoesToKeys, DoesToValue, HasRoom};
+ghost use Rattle.key_cmds.specs.inner.Settling.{DoesToValue, HasRoom};
 
 use crate::Ran;
 use crate::plain::{Plain, of_list};
@@ -19,7 +17,7 @@ use key_store::KeyStore;
 use list_cmds::ListCmd;
 use std::alloc::Global;
 
-/// A command on a list.
+/// A command on a list. The key is looked up once, and once more where a value is put or goes.
 pub(crate) fn on_list_key<N>(
     alloc: Global,
     cmd: ListCmd,
@@ -34,33 +32,20 @@ pub(crate) fn on_list_key<N>(
         (left.new.items ≡ left.old.items ++ (on_list cmd keys.old words.now).left) }
     ensures err { OnErr result ((keys.new ≡ keys.old) × (left.new.items ≡ left.old.items)) }
 {
-    let outcome = list_outcome(alloc, cmd, keys, words, left)?;
-    settle(alloc, keys, words.word(1), outcome, left)
-}
-
-// What a command on a list does to its key, whose value it may change in its place.
-fn list_outcome<N>(
-    alloc: Global,
-    cmd: ListCmd,
-    keys: &mut KeyStore<N>,
-    words: &Args,
-    left: &mut Vec<N>,
-) -> Result<Outcome<Plain>, NoMemory>
-    requires { MeetArity (list_commands.command_row cmd) words.now }
-    ensures does { IfOk result
-        (λ o. DoesToKeys (word 1 words.now) o keys.old keys.new
-        (done_of plain.List (list_done cmd (value_at keys.old (word 1 words.now)) words.now))) }
-    ensures room { OnOk result (HasRoom left.new (value_at keys.new (word 1 words.now))) }
-    ensures same { left.new.items ≡ left.old.items }
-    ensures err { OnErr result (keys.new ≡ keys.old) }
-{
     match keys.get_mut(words.word(1)) {
-        Some(held) => list_outcome_on(alloc, cmd, held, words, left),
-        None => Ok(of_list(list_cmds::run(alloc, cmd, None, words)?)),
+        Some(held) => {
+            let outcome = list_outcome(alloc, cmd, held, words, left)?;
+            settle(keys, words.word(1), true, outcome, left)
+        }
+        None => {
+            let outcome = of_list(list_cmds::run(alloc, cmd, None, words)?);
+            settle(keys, words.word(1), false, outcome, left)
+        }
     }
 }
 
-fn list_outcome_on<N>(
+// What a command on a list does to the value of its key, which it may change in its place.
+fn list_outcome<N>(
     alloc: Global,
     cmd: ListCmd,
     held: &mut Value<N>,

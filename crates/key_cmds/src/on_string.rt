@@ -2,14 +2,12 @@
 
 ghost use Rattle.std.specs.Prelude.{◌≡◌, ◌++◌, Some, IfOk, OnOk, OnErr};
 ghost use Rattle.core_types.specs.CommandRow.{MeetArity};
-ghost use Rattle.sequences.specs.Words.{word};
-ghost use Rattle.core_types.specs.Keys.{value_at};
 ghost use Rattle.string_cmds.specs.Commands as string_commands;
 ghost use Rattle.key_cmds.specs.OneKey.{on_string, string_done};
 ghost use Rattle.key_cmds.specs.Run.{told};
 ghost use Rattle.key_cmds.specs.declared.plain.Plain.TheVariants as plain;
 ghost use Rattle.key_cmds.specs.inner.Plain.{done_of};
-ghost use Rattle.key_cmds.specs.inner.Settling.{DoesToKeys, DoesToValue, HasRoom};
+ghost use Rattle.key_cmds.specs.inner.Settling.{DoesToValue, HasRoom};
 
 use crate::Ran;
 use crate::plain::{Plain, of_string};
@@ -19,7 +17,7 @@ use key_store::KeyStore;
 use std::alloc::Global;
 use string_cmds::StringCmd;
 
-/// A command on a string.
+/// A command on a string. The key is looked up once, and once more where a value is put or goes.
 pub(crate) fn on_string_key<N>(
     alloc: Global,
     cmd: StringCmd,
@@ -34,33 +32,20 @@ pub(crate) fn on_string_key<N>(
         (left.new.items ≡ left.old.items ++ (on_string cmd keys.old words.now).left) }
     ensures err { OnErr result ((keys.new ≡ keys.old) × (left.new.items ≡ left.old.items)) }
 {
-    let outcome = string_outcome(alloc, cmd, keys, words, left)?;
-    settle(alloc, keys, words.word(1), outcome, left)
-}
-
-// What a command on a string does to its key, whose value it may change in its place.
-fn string_outcome<N>(
-    alloc: Global,
-    cmd: StringCmd,
-    keys: &mut KeyStore<N>,
-    words: &Args,
-    left: &mut Vec<N>,
-) -> Result<Outcome<Plain>, NoMemory>
-    requires { MeetArity (string_commands.command_row cmd) words.now }
-    ensures does { IfOk result
-        (λ o. DoesToKeys (word 1 words.now) o keys.old keys.new
-        (done_of plain.Str (string_done cmd (value_at keys.old (word 1 words.now)) words.now))) }
-    ensures room { OnOk result (HasRoom left.new (value_at keys.new (word 1 words.now))) }
-    ensures same { left.new.items ≡ left.old.items }
-    ensures err { OnErr result (keys.new ≡ keys.old) }
-{
     match keys.get_mut(words.word(1)) {
-        Some(held) => string_outcome_on(alloc, cmd, held, words, left),
-        None => Ok(of_string(string_cmds::run(alloc, cmd, None, words)?)),
+        Some(held) => {
+            let outcome = string_outcome(alloc, cmd, held, words, left)?;
+            settle(keys, words.word(1), true, outcome, left)
+        }
+        None => {
+            let outcome = of_string(string_cmds::run(alloc, cmd, None, words)?);
+            settle(keys, words.word(1), false, outcome, left)
+        }
     }
 }
 
-fn string_outcome_on<N>(
+// What a command on a string does to the value of its key, which it may change in its place.
+fn string_outcome<N>(
     alloc: Global,
     cmd: StringCmd,
     held: &mut Value<N>,

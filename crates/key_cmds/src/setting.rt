@@ -2,19 +2,19 @@
 
 ghost use Rattle.std.specs.Prelude.{◌≡◌, ◌≤◌, ◌∷◌, ◌++◌, [], drop, map, codes, length, IfOk, OnOk, OnErr};
 ghost use Rattle.core_types.specs.Done.{own_words};
+ghost use Rattle.core_types.specs.Keys.{value_at, with_value};
 ghost use Rattle.key_cmds.specs.Leaving.{IsFrontSet, with_set};
-ghost use Rattle.key_cmds.specs.Run.{told};
+ghost use Rattle.key_cmds.specs.Run.{native_in, told};
 ghost use Rattle.key_cmds.specs.SeveralKeys.{left_by_pairs, ok, pairs_of, set_each, set_note, with_pairs};
 
 use crate::Ran;
-use crate::pair::Pair;
+use crate::pairs::Pairs;
 use crate::plain::Plain;
 use crate::ran::{ok, own_change};
 use crate::settling::{make_room, put};
-use core_types::{Args, Blob, NoMemory, Note, NoteClass, Notes, wrong_arity};
+use core_types::{Args, Blob, NoMemory, Note, NoteClass, Notes, Value, wrong_arity};
 use key_store::KeyStore;
 use std::alloc::Global;
-use std::collections::VecDeque;
 
 /// `MSET key value ..`: sets keys. Where memory runs out, some pairs in front may be set.
 pub(crate) fn set_each<N>(
@@ -35,42 +35,25 @@ pub(crate) fn set_each<N>(
     if words.len() % 2 == 0 {
         return Ok(Ran::answer(alloc, wrong_arity(alloc, b"MSET")?));
     }
-    let pairs = pairs_of(alloc, &words.as_slice()[1..])?;
     let ran = Ran {
         reply: ok(alloc)?,
         effects: own_change(alloc, b"MSET", words)?,
-        notes: set_notes(alloc, &pairs)?,
+        notes: set_notes(alloc, Pairs::new(words.from_place(1)))?,
     };
-    set_pairs(keys, VecDeque::from_vec(pairs), left)?;
+    set_pairs(alloc, keys, Pairs::new(words.from_place(1)), left)?;
     Ok(ran)
 }
 
-// The words two by two.
-fn pairs_of(alloc: Global, words: &[Blob]) -> Result<Vec<Pair>, NoMemory>
-    ensures { IfOk result (λ pairs. pairs.items ≡ pairs_of words.now) }
-{
-    let mut pairs = Vec::new(alloc);
-    let mut rest = words;
-    while let [key, value, more @ ..] = rest {
-        pairs.push(Pair {
-            key: key.copy(alloc)?,
-            value: value.copy(alloc)?,
-        })?;
-        rest = more;
-    }
-    Ok(pairs)
-}
-
 // An event of each pair.
-fn set_notes(alloc: Global, pairs: &[Pair]) -> Result<Notes, NoMemory>
-    ensures { IfOk result (λ notes. notes ≡ map set_note pairs.now) }
+fn set_notes(alloc: Global, pairs: Pairs<'_>) -> Result<Notes, NoMemory>
+    ensures { IfOk result (λ notes. notes ≡ map set_note pairs.entry) }
 {
     let mut notes = Notes::new(alloc);
-    for pair in pairs {
+    for (key, _) in pairs {
         notes.push(Note {
             class: NoteClass::String,
             name: Blob::from_slice(alloc, b"set")?,
-            key: pair.key.copy(alloc)?,
+            key: Blob::from_slice(alloc, key)?,
         })?;
     }
     Ok(notes)
@@ -78,30 +61,39 @@ fn set_notes(alloc: Global, pairs: &[Pair]) -> Result<Notes, NoMemory>
 
 // Sets the pairs, one after the other.
 fn set_pairs<N>(
+    alloc: Global,
     keys: &mut KeyStore<N>,
-    mut pairs: VecDeque<Pair>,
+    pairs: Pairs<'_>,
     left: &mut Vec<N>,
 ) -> Result<(), NoMemory>
-    ensures keys { OnOk result (keys.new ≡ with_pairs pairs.items keys.old) }
+    ensures keys { OnOk result (keys.new ≡ with_pairs pairs.entry keys.old) }
     ensures left { OnOk result
-        (left.new.items ≡ left.old.items ++ left_by_pairs pairs.items keys.old) }
-    ensures err { OnErr result (IsFrontSet pairs.items
+        (left.new.items ≡ left.old.items ++ left_by_pairs pairs.entry keys.old) }
+    ensures err { OnErr result (IsFrontSet pairs.entry
         (record { keys = keys.old; left = left.old.items })
         (record { keys = keys.new; left = left.new.items })) }
 {
-    while let Some(pair) = pairs.pop_front() {
-        set_pair(keys, pair, left)?;
+    for (key, value) in pairs {
+        set_pair(alloc, keys, key, value, left)?;
     }
     Ok(())
 }
 
-fn set_pair<N>(keys: &mut KeyStore<N>, pair: Pair, left: &mut Vec<N>) -> Result<(), NoMemory>
-    ensures keys { OnOk result (keys.new ≡ with_pairs (pair ∷ []) keys.old) }
+fn set_pair<N>(
+    alloc: Global,
+    keys: &mut KeyStore<N>,
+    key: &[u8],
+    text: &[u8],
+    left: &mut Vec<N>,
+) -> Result<(), NoMemory>
+    ensures keys { OnOk result (keys.new ≡ with_value keys.old key.now (Value.Str text.now)) }
     ensures left { OnOk result
-        (left.new.items ≡ left.old.items ++ left_by_pairs (pair ∷ []) keys.old) }
+        (left.new.items ≡ left.old.items ++ native_in (value_at keys.old key.now)) }
     ensures err { OnErr result ((keys.new ≡ keys.old) × (left.new.items ≡ left.old.items)) }
 {
-    let Pair { key, value } = pair;
-    make_room(keys.get(key.as_slice()), left)?;
-    put(keys, key, Plain::Str(value), left)
+    let value = Plain::Str(Blob::from_slice(alloc, text)?);
+    let held = keys.get(key);
+    make_room(held, left)?;
+    let there = held.is_some();
+    put(keys, key, there, value, left)
 }

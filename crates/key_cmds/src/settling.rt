@@ -1,6 +1,6 @@
 //! Carries the outcome of a command on one key to the keys.
 
-ghost use Rattle.std.specs.Prelude.{◌≡◌, ◌+◌, ◌++◌, [], Some, length, vec_capacity, vec_len, IfOk, OnOk, OnErr};
+ghost use Rattle.std.specs.Prelude.{◌≡◌, ◌+◌, ◌++◌, [], None, Some, IsSome, is_some, length, vec_capacity, vec_len, IfOk, OnOk, OnErr};
 ghost use Rattle.std.specs.Option.{option_copied};
 ghost use Rattle.core_types.specs.Keys.{value_at, with_value};
 ghost use Rattle.key_cmds.specs.Run.{native_in};
@@ -9,19 +9,19 @@ ghost use Rattle.key_cmds.specs.inner.Settling.{HasRoom, Puts, leaving, settled}
 
 use crate::Ran;
 use crate::plain::Plain;
-use core_types::{After, Blob, NoMemory, Outcome, Value};
-use key_store::{KeyStore, PutBack};
-use std::alloc::Global;
+use core_types::{After, NoMemory, Outcome, Value};
+use key_store::KeyStore;
 
 /// Carries an outcome to a key. There is room for what the key has; memory is taken only to put a
 /// value.
 pub(crate) fn settle<N>(
-    alloc: Global,
     keys: &mut KeyStore<N>,
     key: &[u8],
+    there: bool,
     outcome: Outcome<Plain>,
     left: &mut Vec<N>,
 ) -> Result<Ran, NoMemory>
+    requires there { there ≡ is_some (value_at keys.old key.now) }
     requires room { HasRoom left.old (value_at keys.old key.now) }
     ensures keys { OnOk result (keys.new ≡ settled outcome.body key.now keys.old) }
     ensures told { IfOk result
@@ -42,7 +42,7 @@ pub(crate) fn settle<N>(
         effects,
         notes,
     } = outcome;
-    carry_out(alloc, keys, key, body, left)?;
+    carry_out(keys, key, there, body, left)?;
     Ok(Ran {
         reply,
         effects,
@@ -51,12 +51,13 @@ pub(crate) fn settle<N>(
 }
 
 fn carry_out<N>(
-    alloc: Global,
     keys: &mut KeyStore<N>,
     key: &[u8],
+    there: bool,
     body: After<Plain>,
     left: &mut Vec<N>,
 ) -> Result<(), NoMemory>
+    requires there { there ≡ is_some (value_at keys.old key.now) }
     requires room { HasRoom left.old (value_at keys.old key.now) }
     ensures keys { OnOk result (keys.new ≡ settled body key.now keys.old) }
     ensures left { OnOk result
@@ -66,13 +67,9 @@ fn carry_out<N>(
 {
     match body {
         After::Keep => Ok(()),
-        After::Put(value) => {
-            let name = Blob::from_slice(alloc, key)?;
-            put(keys, name, value, left)
-        }
+        After::Put(value) => put(keys, key, there, value, left),
         After::Remove => {
-            let before = keys.take(key);
-            hand_over(before, left);
+            hand_over(keys.take(key), left);
             Ok(())
         }
     }
@@ -82,22 +79,60 @@ fn carry_out<N>(
 /// nothing.
 pub(crate) fn put<N>(
     keys: &mut KeyStore<N>,
-    key: Blob,
+    key: &[u8],
+    there: bool,
     value: Plain,
     left: &mut Vec<N>,
 ) -> Result<(), NoMemory>
-    requires room { HasRoom left.old (value_at keys.old key) }
-    ensures keys { OnOk result (keys.new ≡ with_value keys.old key (value_of value)) }
+    requires there { there ≡ is_some (value_at keys.old key.now) }
+    requires room { HasRoom left.old (value_at keys.old key.now) }
+    ensures keys { OnOk result (keys.new ≡ with_value keys.old key.now (value_of value)) }
     ensures left { OnOk result
-        (left.new.items ≡ left.old.items ++ native_in (value_at keys.old key)) }
+        (left.new.items ≡ left.old.items ++ native_in (value_at keys.old key.now)) }
     ensures err { OnErr result ((keys.new ≡ keys.old) × (left.new.items ≡ left.old.items)) }
 {
-    match keys.put(key, value.into_value()) {
+    if there {
+        replace(keys, key, value, left)
+    } else {
+        put_new(keys, key, value)
+    }
+}
+
+// Gives a key that is there another value.
+fn replace<N>(
+    keys: &mut KeyStore<N>,
+    key: &[u8],
+    value: Plain,
+    left: &mut Vec<N>,
+) -> Result<(), NoMemory>
+    requires there { IsSome (value_at keys.old key.now) }
+    requires room { HasRoom left.old (value_at keys.old key.now) }
+    ensures keys { OnOk result (keys.new ≡ with_value keys.old key.now (value_of value)) }
+    ensures left { OnOk result
+        (left.new.items ≡ left.old.items ++ native_in (value_at keys.old key.now)) }
+    ensures err { OnErr result ((keys.new ≡ keys.old) × (left.new.items ≡ left.old.items)) }
+{
+    match keys.replace(key, value.into_value()) {
         Ok(before) => {
-            hand_over(before, left);
+            hand_over(Some(before), left);
             Ok(())
         }
-        Err(PutBack { key: _, value }) => {
+        Err(value) => {
+            discard(value);
+            Err(NoMemory)
+        }
+    }
+}
+
+// Gives a key that is not there a value.
+fn put_new<N>(keys: &mut KeyStore<N>, key: &[u8], value: Plain) -> Result<(), NoMemory>
+    requires absent { value_at keys.old key.now ≡ None }
+    ensures ok { OnOk result (keys.new ≡ with_value keys.old key.now (value_of value)) }
+    ensures err { OnErr result (keys.new ≡ keys.old) }
+{
+    match keys.put_new(key, value.into_value()) {
+        Ok(()) => Ok(()),
+        Err(value) => {
             discard(value);
             Err(NoMemory)
         }

@@ -1,17 +1,18 @@
 //! The commands on keys of any kind that only answer: EXISTS, TYPE, DBSIZE and MGET; and RENAME.
 
-ghost use Rattle.std.specs.Prelude.{◌≡◌, ◌≤◌, [], ◌∷◌, ◌++◌, codes, length, filter, map, IfOk, OnOk, OnErr};
+ghost use Rattle.std.specs.Prelude.{◌≡◌, ◌≤◌, ◌<◌, ◌^◌, [], ◌∷◌, ◌++◌, codes, length, filter, map, IfOk, OnOk, OnErr};
 ghost use Rattle.std.specs.Option.{option_copied};
+ghost use Rattle.core_types.specs.Answers.{several};
 ghost use Rattle.core_types.specs.Done.{own_words};
 ghost use Rattle.sequences.specs.Words.{word};
 ghost use Rattle.core_types.specs.Keys.{value_at};
 ghost use Rattle.key_cmds.specs.Run.{told};
-ghost use Rattle.key_cmds.specs.SeveralKeys.{count, exists, generic_note, get_each, is_there, ok, rename, several, string_in, tell_type, type_of};
+ghost use Rattle.key_cmds.specs.SeveralKeys.{count, exists, generic_note, get_each, is_there, ok, rename, string_in, tell_type, type_of};
 
 use crate::ran::{generic_note, ok, own_change};
 use crate::settling::{hand_over, make_room};
 use crate::{ModuleValue, Ran};
-use core_types::{Args, Blob, NoMemory, Notes, Refusal, Replies, Reply, Value};
+use core_types::{Args, Blob, NoMemory, Notes, Refusal, Replies, Reply, Value, Words};
 use key_store::KeyStore;
 use std::alloc::Global;
 
@@ -20,18 +21,18 @@ pub(crate) fn exists<N>(alloc: Global, keys: &KeyStore<N>, words: &Args) -> Ran
     requires { 2 ≤ length words.now }
     ensures { result ≡ told (exists keys.now words.now) }
 {
-    let count = count_there(keys, &words.as_slice()[1..]);
+    let count = count_there(keys, words.from_place(1));
     Ran::answer(alloc, Reply::Int(count as i64))
 }
 
-fn count_there<N>(keys: &KeyStore<N>, names: &[Blob]) -> usize
-    ensures count { result ≡ length (filter (is_there keys.now) names.now) }
-    ensures few { result ≤ length names.now }
+fn count_there<N>(keys: &KeyStore<N>, names: Words<'_>) -> usize
+    ensures count { result ≡ length (filter (is_there keys.now) names.entry) }
+    ensures small { result < 2 ^ 63 }
 {
-    let mut count = 0;
+    let mut count = names.len();
     for name in names {
-        if keys.get(name.as_slice()).is_some() {
-            count += 1;
+        if keys.get(name).is_none() {
+            count -= 1;
         }
     }
     count
@@ -80,18 +81,18 @@ pub(crate) fn get_each<N>(alloc: Global, keys: &KeyStore<N>, words: &Args) -> Re
     requires { 2 ≤ length words.now }
     ensures { IfOk result (λ ran. ran ≡ told (get_each keys.now words.now)) }
 {
-    let replies = strings(alloc, keys, &words.as_slice()[1..])?;
+    let replies = strings(alloc, keys, words.from_place(1))?;
     Ok(Ran::answer(alloc, Reply::Array(replies)))
 }
 
 // The string of each key, or a null.
-fn strings<N>(alloc: Global, keys: &KeyStore<N>, names: &[Blob]) -> Result<Replies, NoMemory>
+fn strings<N>(alloc: Global, keys: &KeyStore<N>, names: Words<'_>) -> Result<Replies, NoMemory>
     ensures { IfOk result
-        (λ replies. replies ≡ several (map (λ key. string_in (value_at keys.now key)) names.now)) }
+        (λ replies. replies ≡ several (map (λ key. string_in (value_at keys.now key)) names.entry)) }
 {
     let mut replies = Replies::new(alloc);
     for name in names {
-        replies.push(string_in(alloc, keys.get(name.as_slice()))?)?;
+        replies.push(string_in(alloc, keys.get(name))?)?;
     }
     Ok(replies)
 }

@@ -1,10 +1,15 @@
 -- What the inner functions of the commands on several keys do.
 use Rattle.std.specs.Prelude.{ℕ, List, [], ◌∷◌, ◌++◌, map, flat_map, codes, Option, Some, None}
+use Rattle.std.specs.Borrow.{Bor}
 use Rattle.core_types.specs.Keys.{KeysOf, value_at, without}
 use Rattle.core_types.specs.declared.note.Note.{Note}
 use Rattle.core_types.specs.declared.value.Value.{Value}
 use Rattle.key_cmds.specs.Run.{native_in}
-use Rattle.key_cmds.specs.SeveralKeys.{generic_note}
+use Rattle.key_cmds.specs.SeveralKeys.{Pair, generic_note}
+
+-- a pair that stands among words
+abbrev pub pair_in_place : Bor (List ℕ) × Bor (List ℕ) → Pair
+pair_in_place p = record { key = p.0.now; value = p.1.now }
 
 abbrev pub del_note : List ℕ → Note
 del_note key = generic_note (codes "del") key

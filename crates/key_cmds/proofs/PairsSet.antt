@@ -1,12 +1,13 @@
 -- What setting pairs one after the other leaves. Serves the clauses of MSET.
-use Rattle.std.proofs.Common.{◌≡◌, List, [], ◌∷◌, ◌++◌, refl, sym, ap, subst, ◌∙◌, append_assoc}
+use Rattle.std.proofs.Common.{◌≡◌, ◌==◌, ◌<◌, ◌%◌, ℕ, Bool, false, arith, codes, drop, length, if◌then◌else◌, List, [], ◌∷◌, ◌++◌, refl, sym, ap, subst, ◌∙◌, append_assoc}
+use Rattle.std.proofs.lemmas.Bool.Decides.{nat_tests}
 use Rattle.std.proofs.lemmas.List.{append-nil}
 use Rattle.core_types.specs.Keys.{KeysOf, value_at, with_value}
+use Rattle.core_types.specs.Refusals.{wrong_arity}
 use Rattle.core_types.specs.declared.value.Value.TheVariants as value
 use Rattle.key_cmds.specs.Leaving.{IsFrontSet, KeysAndLeft, with_set}
-use Rattle.key_cmds.specs.Run.{native_in}
-use Rattle.key_cmds.specs.SeveralKeys.{left_by_pairs, with_pairs}
-use Rattle.key_cmds.specs.declared.pair.Pair.{Pair}
+use Rattle.key_cmds.specs.Run.{answers, native_in}
+use Rattle.key_cmds.specs.SeveralKeys.{Pair, is_odd, left_by_pairs, pairs_of, set_each, sets, with_pairs}
 
 module _ {N : Type 0} where
   set_more : (front more : List Pair) (keys : KeysOf N) → with_pairs (front ++ more) keys ≡ with_pairs more (with_pairs front keys)
@@ -54,10 +55,23 @@ module _ {N : Type 0} where
   front_set rest pairs before after h = record { front = h.front; rest = rest; whole = h.whole; set = h.set }
 
   -- one pair is set
-  pub set_one : (pair : Pair) (now after : KeysAndLeft N) → after.keys ≡ with_pairs (pair ∷ []) now.keys → after.left ≡ now.left ++ left_by_pairs (pair ∷ []) now.keys → after ≡ with_set (pair ∷ []) now
+  pub set_one : (pair : Pair) (now after : KeysAndLeft N) → after.keys ≡ with_value now.keys pair.key (value.Str pair.value)
+      → after.left ≡ now.left ++ native_in (value_at now.keys pair.key) → after ≡ with_set (pair ∷ []) now
   set_one pair now after keys left =
-      ap (λ k. record { keys = k; left = after.left }) keys ∙ ap (λ l. record { keys = with_pairs (pair ∷ []) now.keys; left = l }) left
+      ap (λ k. record { keys = k; left = after.left }) keys
+      ∙ ap (λ l. record { keys = with_pairs (pair ∷ []) now.keys; left = l })
+      (left ∙ ap (λ values. now.left ++ values) (sym (append-nil (native_in (value_at now.keys pair.key)))))
 
   pub next_taken : (pair : Pair) (rest all pairs : List Pair) (before now after : KeysAndLeft N) → all ≡ pair ∷ rest → AreSetBut all pairs before now → after ≡ with_set (pair ∷ []) now → AreSetBut rest pairs before after
   next_taken pair rest all pairs before now after same h step =
       next_set pair rest pairs before now after (subst (λ (ps : List Pair). AreSetBut ps pairs before now) same h) step
+
+  -- where each key has a value, all pairs are set
+  pub sets_all : (keys : KeysOf N) (words : List (List ℕ)) → is_odd (drop 1 words) ≡ false → set_each keys words ≡ sets (pairs_of (drop 1 words)) keys words
+  sets_all keys words even =
+      ap (λ (b : Bool). if b then answers (wrong_arity (codes "MSET")) keys else sets (pairs_of (drop 1 words)) keys words) even
+
+-- an even number of words stands behind the name where it is odd with the name
+pub even_rest : (words : List (List ℕ)) → (length words % 2 == 0) ≡ false → 0 < length words → is_odd (drop 1 words) ≡ false
+even_rest [] odd some = absurd (omega (arith, some))
+even_rest (first ∷ rest) odd some = grind (arith, nat_tests)
