@@ -16,7 +16,7 @@ use Rattle.effect_log.specs.Refusal.{Refusal}
 use Rattle.effect_log.specs.Unit.{IsLoggable, exec, is_named, multi}
 use Rattle.key_store.specs.NextDue.{next_due}
 use Rattle.string_cmds.specs.Commands as string_commands
-use Rattle.string_cmds.specs.Laws.{IsSmallEffect, IsWithinLimits}
+use Rattle.core_types.specs.Limits.{IsSmallEffect, IsWithinLimits}
 use Rattle.string_cmds.specs.declared.command.StringCmd.{StringCmd}
 use Rattle.string_cmds.specs.declared.command.StringCmd.TheVariants as string
 use Rattle.list_cmds.specs.Commands as list_commands

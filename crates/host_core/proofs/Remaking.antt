@@ -14,7 +14,8 @@ use Rattle.effect_log.specs.Replay.{and_then, replayed}
 use Rattle.key_store.specs.NextDue.{next_due}
 use Rattle.key_cmds.specs.Commands.{command_row}
 use Rattle.key_cmds.specs.Deadlines.{delete_effect, expired}
-use Rattle.key_cmds.specs.Laws.{ChangesAtMostOnce, IsRefusal, Remakes}
+use Rattle.core_types.specs.Refusals.{IsRefusal}
+use Rattle.key_cmds.specs.Laws.{ChangesAtMostOnce, Remakes}
 use Rattle.key_cmds.specs.Rows.{does}
 use Rattle.key_cmds.specs.Run.{Run}
 use Rattle.key_cmds.specs.declared.command.Command.{Command}

@@ -14,7 +14,7 @@ use Rattle.effect_log.specs.declared.reason.Reason.{Reason}
 use Rattle.effect_log.specs.declared.reason.Reason.TheVariants as reason
 use Rattle.effect_log.specs.declared.replayer.ReplayStop.{ReplayStop}
 use Rattle.effect_log.specs.declared.replayer.ReplayStop.TheVariants as stops
-use Rattle.key_cmds.specs.Laws.{IsRefusal}
+use Rattle.core_types.specs.Refusals.{IsRefusal}
 use Rattle.key_cmds.proofs.Remade.{remade}
 use Rattle.key_cmds.proofs.SeveralRemade.{refused_nothing}
 use Rattle.key_cmds.specs.Rows.{does}

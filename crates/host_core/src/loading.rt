@@ -1,6 +1,6 @@
 //! Puts in keys that were read from elsewhere.
 
-ghost use Rattle.std.specs.Prelude.{◌≡◌, OnOk, OnErr};
+ghost use Rattle.std.specs.Prelude.{◌≡◌, ◌≢◌, Some, OnOk, OnErr};
 ghost use Rattle.core_types.specs.Keys.{with_entry, without};
 
 use crate::NoValue;
@@ -8,7 +8,7 @@ use core_types::{Blob, NoMemory, Value};
 use key_store::KeyStore;
 use std::alloc::Global;
 
-// Gives a key this value and this deadline. On an `Err` the key may be gone.
+// Gives a key this value and this deadline, which is not 0. On an `Err` the key may be gone.
 pub(crate) fn put(
     alloc: Global,
     keys: &mut KeyStore<NoValue>,
@@ -16,6 +16,7 @@ pub(crate) fn put(
     value: Value<NoValue>,
     deadline: Option<u64>,
 ) -> Result<(), NoMemory>
+    requires positive { deadline ≢ Some 0 }
     ensures ok { OnOk result (keys.new
         ≡ with_entry keys.old key (record { value = value; deadline = deadline })) }
     ensures others { OnErr result (without keys.new key ≡ without keys.old key) }

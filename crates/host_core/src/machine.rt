@@ -1,6 +1,6 @@
 //! The core of a host: the machine over its keys and its clients.
 
-ghost use Rattle.std.specs.Prelude.{◌≡◌, ◌<◌, ◌++◌, ℕ, length, take, drop, min, true, Ok, Err, IfOk, IfErr, OnOk, OnErr, IsSome};
+ghost use Rattle.std.specs.Prelude.{◌≡◌, ◌≢◌, ◌<◌, ◌++◌, ℕ, length, take, drop, min, true, Ok, Err, Some, IfOk, IfErr, OnOk, OnErr, IsSome};
 ghost use Rattle.core_types.specs.Keys.{no_keys, with_entry, without};
 ghost use Rattle.core_types.specs.declared.event.Answer.TheVariants as answer;
 ghost use Rattle.core_types.specs.declared.event.Event.TheVariants as event;
@@ -144,14 +144,15 @@ impl Core {
         )
     }
 
-    /// Puts in a key that was read from elsewhere, with its value and its deadline. It stops for
-    /// want of memory alone: all other keys are then as they were.
+    /// Puts in a key that was read from elsewhere, with its value and its deadline, which is not 0.
+    /// It stops for want of memory alone: all other keys are then as they were.
     pub fn put_loaded(
         &mut self,
         key: Blob,
         value: Value<NoValue>,
         deadline: Option<u64>,
     ) -> Result<(), Stop>
+        requires positive { deadline ≢ Some 0 }
         ensures ok { OnOk result (self.new ≡ record self.old {
           keys = with_entry self.old.keys key (record { value = value; deadline = deadline });
         }) }

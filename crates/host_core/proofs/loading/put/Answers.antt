@@ -10,6 +10,7 @@ set_deadline-requires c =
     record {
       there = subst (λ k. IsSome (value_at c.put.new.self k)) (sym name)
           (subst (λ keys. IsSome (value_at keys c.args.key)) (sym c.in_default.ensures.ok) (there_put c.args.keys.now c.args.key c.args.value));
+      positive = c.requires.positive;
     }
 
 pub returns-in-Err-set_deadline-clause-others : goal.returns-in-Err-set_deadline-clause-others
