@@ -1,18 +1,18 @@
 -- Serves clause runs of WordCount::drop_word.
 use Rattle.std.proofs.Common.{◌≡◌, pos, Some, Ok, refl, sym, ap, ◌∙◌}
-use Rattle.std.specs.Prelude.{not}
+use Rattle.std.specs.Prelude.{⊤, not}
 use Rattle.std.specs.Option.{is_none, option_map}
 use Rattle.sequences.specs.Words.{word}
 use Rattle.core_types.specs.declared.reply.Reply.TheVariants as reply
-use Rattle.module_laws.specs.Meaning.{type_of}
+use Rattle.module_laws.specs.Meaning.{Did, type_of}
 use Rattle.module_laws.specs.Runs.{Runs, scene}
 use Rattle.module_laws.specs.Told.{with_effect}
-use Rattle.module_laws.specs.inner.Plain.{plain_state}
+use Rattle.module_laws.specs.inner.Plain.{answers_only, plain_state}
 use Rattle.mod_samples.specs.Changes.{Change, leaves, with_notes}
 use Rattle.mod_samples.specs.Counts.{without_word}
 use Rattle.mod_samples.specs.WordCount.{count_name, counts_at, drop_notes, dropped, value_of, wordcount, words_at}
 use Rattle.mod_samples.proofs.CountRuns.{HasWord, has_word, out_full, some_count}
-use Rattle.mod_samples.proofs.Running.{key_short, stops, stores, tells_all}
+use Rattle.mod_samples.proofs.Running.{answers, key_short, stops, stores, tells_all}
 use Rattle.mod_samples.proofs.word_count.WordCount.drop_word.Goals as goal
 
 pub returns-in_err-tell_drop-clause-runs : goal.returns-in_err-tell_drop-clause-runs
@@ -54,3 +54,14 @@ returns-clause-runs g c =
     rw has.there (rw drops (tells_all (type_of wordcount) count_name change (reply.Int (pos 1)) _ old told new (plain_state m f) (plain_state m f) refl runs
     (c.in_ok-add_effect.ensures.ok ∙ ap (with_effect (record { words = words })) (c.in_ok-tell_drop.ensures.ok
     ∙ ap (λ k. with_notes (drop_notes k c.in_ok-gone.gone) told) key ∙ ap (λ b. with_notes (drop_notes (word 1 words) b) told) gone))))
+
+pub returns-in_err-gone-clause-runs : goal.returns-in_err-gone-clause-runs
+returns-in_err-gone-clause-runs g c =
+    let old = g.C.Context.told c.args.ctx.now in let new = g.C.Context.told c.take_out.new.ctx in
+    let m = c.args.self.now.tally.made in let f = c.args.self.now.tally.freed in
+    let same : new ≡ old = c.in_err-gone.ensures.err in
+    let first : Did ⊤ = answers_only tt old.seen in
+    let runs : Runs (type_of wordcount) first (Ok tt) (scene (plain_state m f) old) (scene (plain_state m f) old) =
+    answers (type_of wordcount) first tt tt old m f refl refl in
+    stops _ _ _ _ c.from_residual-in_err-gone.result _ _ old new runs (ap (λ t. t.seen) same) (ap (λ t. t.added) same)
+    c.from_residual-in_err-gone.ensures.1
