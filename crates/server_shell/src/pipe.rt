@@ -173,5 +173,8 @@ fn next_piece<S: Source>(source: &mut S, buffer: &mut [u8], taken: u64) -> Resul
 fn is_quit(words: &Args) -> bool
     ensures { result ≡ quits words.now }
 {
-    words.len() == 1 && words.word(0).eq_ignore_ascii_case(b"QUIT")
+    match words.get(0) {
+        Some(name) if words.len() == 1 => name.eq_ignore_ascii_case(b"QUIT"),
+        _ => false,
+    }
 }
