@@ -2,7 +2,7 @@ ghost use Rattle.std.specs.Prelude.{IsTrue, IsSome};
 ghost use Rattle.client_book.specs.Register.{listed};
 
 use client_book::{Book, Client, Clients, JoinFault, PendFault, Pending};
-use core_types::{BadRequest, Blob, ClientState, NoMemory, Reply, Sequence};
+use core_types::{Args, BadRequest, Blob, ClientState, NoMemory, Reply};
 use std::alloc::Global;
 use std::test::Fail;
 
@@ -71,7 +71,7 @@ fn queue_one(alloc: Global, book: &mut Book, client: u64) -> Result<(), NoMemory
         book.begin_queue(client);
     }
     if book.has_queue(client) {
-        book.queue(client, Sequence::new(alloc))?;
+        book.queue(client, Args::new(alloc))?;
     }
     Ok(())
 }
