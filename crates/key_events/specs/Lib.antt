@@ -1,0 +1,5 @@
+pub mod Patterns
+pub mod Rolls
+pub mod Subscribers
+pub mod Outcomes
+pub mod inner
