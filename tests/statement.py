@@ -2,9 +2,12 @@
 """Prints what has to be believed of a public call: its contract, and every definition that it reaches.
 
     tests/statement.py CRATE::MODULE::TYPE::CALL     prints the definitions, those that others stand on first
+    tests/statement.py --tables [CRATE]              prints the definitions of a crate, or of all, as tables of Markdown
     tests/statement.py                               counts the lines for the calls that a user relies on
 
-Words of std are named at the end and not printed. Without arguments it is a check: each call has to be there.
+Words of std are named at the end and not printed. A table has each public definition with its file and the comment
+above it; one without a comment stands with the one before it. Without arguments it is a check: each call has
+to be there.
 """
 
 import re
@@ -182,5 +185,51 @@ def check():
     return status
 
 
+def rows_of(path):
+    """The public definitions of a file in order: names that share a comment, and the comment.
+
+    Where the first has none, the file's first line stands for it.
+    """
+    first = path.read_text(encoding="utf-8").split("\n", 1)[0]
+    rows, header = [], first.lstrip("-").strip() if first.startswith("--") else ""
+    for name, block in Definitions(path).blocks.items():
+        comment = " ".join(line.strip().lstrip("-").strip() for line in block if line.lstrip().startswith("--"))
+        if not any(re.match(r" *(?:(?:abbrev|unfoldable) )?pub ", line) for line in block[:8]):
+            continue
+        if comment or not rows:
+            rows.append(([name], comment or header))
+        else:
+            rows[-1][0].append(name)
+    return rows
+
+
+def tables(crate):
+    """Prints what a crate's public clauses may cite, in words; what only inner functions cite is left out."""
+    specs = CRATES / crate / "specs"
+    files = [file for file in sorted(specs.glob("*.antt")) if file.name not in ("Lib.antt", "inner.antt")]
+    print(f"## `{crate}/specs`\n\n| Name | File | In words |\n|---|---|---|")
+    for file in files:
+        for names, comment in rows_of(file):
+            print(f"| {', '.join(f'`{name}`' for name in names)} | `{file.name}` | {comment.replace('|', chr(92) + '|')} |")
+    print()
+
+
+def print_tables(asked):
+    lines = (CRATES.parent / "crates.txt").read_text(encoding="utf-8").splitlines()
+    crates = [crate for crate in (line.split(":")[0].strip() for line in lines) if (CRATES / crate / "specs").is_dir()]
+    unknown = [crate for crate in asked if crate not in crates]
+    for crate in unknown:
+        print(f"no definitions of a crate {crate}")
+    for crate in [] if unknown else asked or crates:
+        tables(crate)
+    return 1 if unknown else 0
+
+
+def main(words):
+    if words[:1] == ["--tables"]:
+        return print_tables(words[1:])
+    return show(words[0]) if words else check()
+
+
 if __name__ == "__main__":
-    sys.exit(show(sys.argv[1]) if len(sys.argv) > 1 else check())
+    sys.exit(main(sys.argv[1:]))
