@@ -210,7 +210,8 @@ def tables(crate):
     print(f"## `{crate}/specs`\n\n| Name | File | In words |\n|---|---|---|")
     for file in files:
         for names, comment in rows_of(file):
-            print(f"| {', '.join(f'`{name}`' for name in names)} | `{file.name}` | {comment.replace('|', chr(92) + '|')} |")
+            listed, words = ", ".join(f"`{name}`" for name in names), comment.replace("|", "\\|")
+            print(f"| {listed} | `{file.name}` | {words} |")
     print()
 
 
