@@ -1,7 +1,8 @@
 #!/usr/bin/env python3
-"""Checks docs/CLAIMS.md against the code.
+"""Checks docs/CLAIMS.md, and what all documents name, against the code.
 
-Each row's call has the clause, and its definitions and must-fail edits are there. Prints one line a problem.
+Each row of docs/CLAIMS.md has a call with the clause, and its definitions and must-fail edits are there. The files that
+a document names are there, and the definitions that it names with their file stand in it. Prints one line a problem.
 """
 
 import re
@@ -15,7 +16,9 @@ CLAIMS = ROOT / "docs" / "CLAIMS.md"
 BLOCK = re.compile(r"(?:pub(?:\(crate\))? )?(impl|trait)\b")
 FUNCTION = re.compile(r"( *)(pub |pub\(crate\) )?fn (\w+)")
 CLAUSE = re.compile(r"\s*(ensures|requires)\s+(\w+)?\s*\{")
-DEFINITION = re.compile(r"`([^`]+)` \(`([^`]+)`\)")
+# one name or several, and the file that has them
+DEFINITION = re.compile(r"((?:`[^`]+`, )*`[^`]+`) \(`([^`]+)`\)")
+FILE = re.compile(r"`([\w.]+/[\w./]+\.\w+)`")
 
 
 class Function:
@@ -88,6 +91,25 @@ def defines(file, name):
     return file.is_file() and re.search(words, file.read_text(), re.MULTILINE)
 
 
+def definitions_in(text):
+    """Each definition that is named with its file: its name and the file."""
+    return [(name, file) for names, file in DEFINITION.findall(text) for name in names.strip("`").split("`, `")]
+
+
+def document_problems(path, crates):
+    """What a document names and is not there. A path begins with a folder of the repository, or with a crate."""
+    text, problems = path.read_text(encoding="utf-8"), []
+    for file in sorted(set(FILE.findall(text))):
+        first = file.split("/")[0]
+        place = CRATES / file if first in crates else ROOT / file
+        if (first in crates or (ROOT / first).is_dir()) and not place.is_file():
+            problems.append(f"{path.name}: no file {file}")
+    for name, file in definitions_in(text):
+        if file.endswith(".antt") and file.split("/")[0] in crates and not defines(CRATES / file, name):
+            problems.append(f"{path.name}: {file} defines no {name}")
+    return problems
+
+
 def row_problems(cells, functions):
     """What is wrong with a row of the table."""
     if len(cells) != 5:
@@ -99,7 +121,7 @@ def row_problems(cells, functions):
     problems = []
     if not any(label in function.labels for function in named):
         problems.append(f"{call} has no clause {label}")
-    definitions = DEFINITION.findall(cells[3])
+    definitions = definitions_in(cells[3])
     if cells[3] != "-" and not definitions:
         problems.append(f"{call}, {label}: no definition `NAME` (`FILE`)")
     for name, file in definitions:
@@ -121,10 +143,12 @@ def main():
             rows += 1
             cells = [cell.strip() for cell in line.strip().strip("|").split("|")]
             problems += [f"docs/CLAIMS.md:{number}: {text}" for text in row_problems(cells, functions)]
+    documents = [ROOT / "README.md", *sorted((ROOT / "docs").glob("*.md"))]
+    problems += [problem for path in documents for problem in document_problems(path, crates)]
     for problem in problems:
         print(problem)
     if not problems:
-        print(f"docs/CLAIMS.md: {rows} rows stand in the code")
+        print(f"docs/CLAIMS.md: {rows} rows stand in the code, and what {len(documents)} documents name is there")
     return 1 if problems else 0
 
 
