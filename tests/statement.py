@@ -7,7 +7,7 @@
 
 Words of std are named at the end and not printed. A table has each public definition with its file and the comment
 above it; one without a comment stands with the one before it. Without arguments it is a check: each call has
-to be there.
+to be there, and each definition in a table has words.
 """
 
 import re
@@ -182,6 +182,12 @@ def check():
             clauses, reached = found
             print(f"{path}: {len(reached.order)} definitions of {reached.lines()} lines, "
                   f"{len(clauses.splitlines())} of clauses")
+    rows = [row for crate in crates_with_specs() for row in table(crate)]
+    for file, (names, comment) in rows:
+        if not comment:
+            print(f"tests/statement.py: no words above {names[0]} of {file.relative_to(CRATES)}")
+            status = 1
+    print(f"tables: {sum(len(names) for _, (names, _) in rows)} definitions in words")
     return status
 
 
@@ -203,26 +209,32 @@ def rows_of(path):
     return rows
 
 
-def tables(crate):
-    """Prints what a crate's public clauses may cite, in words; what only inner functions cite is left out."""
-    specs = CRATES / crate / "specs"
-    files = [file for file in sorted(specs.glob("*.antt")) if file.name not in ("Lib.antt", "inner.antt")]
+def table(crate):
+    """What a crate's public clauses may cite, in words, by its file; what only inner functions cite is left out."""
+    files = sorted((CRATES / crate / "specs").glob("*.antt"))
+    return [(file, row) for file in files if file.name not in ("Lib.antt", "inner.antt") for row in rows_of(file)]
+
+
+def print_table(crate):
     print(f"## `{crate}/specs`\n\n| Name | File | In words |\n|---|---|---|")
-    for file in files:
-        for names, comment in rows_of(file):
-            listed, words = ", ".join(f"`{name}`" for name in names), comment.replace("|", "\\|")
-            print(f"| {listed} | `{file.name}` | {words} |")
+    for file, (names, comment) in table(crate):
+        listed, words = ", ".join(f"`{name}`" for name in names), comment.replace("|", "\\|")
+        print(f"| {listed} | `{file.name}` | {words} |")
     print()
 
 
-def print_tables(asked):
+def crates_with_specs():
     lines = (CRATES.parent / "crates.txt").read_text(encoding="utf-8").splitlines()
-    crates = [crate for crate in (line.split(":")[0].strip() for line in lines) if (CRATES / crate / "specs").is_dir()]
+    return [crate for crate in (line.split(":")[0].strip() for line in lines) if (CRATES / crate / "specs").is_dir()]
+
+
+def print_tables(asked):
+    crates = crates_with_specs()
     unknown = [crate for crate in asked if crate not in crates]
     for crate in unknown:
         print(f"no definitions of a crate {crate}")
     for crate in [] if unknown else asked or crates:
-        tables(crate)
+        print_table(crate)
     return 1 if unknown else 0
 
 
