@@ -6,12 +6,13 @@
     tests/statement.py                               counts the lines for the calls that a user relies on
 
 Words of std are named at the end and not printed. A table has each public definition with its file and the comment
-above it; one without a comment stands with the one before it. Without arguments it is a check: each call has
+above it; one without a comment is named beside the one before it. Without arguments it is a check: each call has
 to be there, and each definition in a table has words.
 """
 
 import re
 import sys
+from itertools import takewhile
 from pathlib import Path
 
 CRATES = Path(__file__).resolve().parent.parent / "crates"
@@ -192,15 +193,16 @@ def check():
 
 
 def rows_of(path):
-    """The public definitions of a file in order: names that share a comment, and the comment.
+    """The public definitions of a file in order: the one with a comment and those without behind it, and the comment.
 
     Where the first has none, the file's first line stands for it.
     """
     first = path.read_text(encoding="utf-8").split("\n", 1)[0]
     rows, header = [], first.lstrip("-").strip() if first.startswith("--") else ""
     for name, block in Definitions(path).blocks.items():
-        comment = " ".join(line.strip().lstrip("-").strip() for line in block if line.lstrip().startswith("--"))
-        if not any(re.match(r" *(?:(?:abbrev|unfoldable) )?pub ", line) for line in block[:8]):
+        above = list(takewhile(lambda line: line.lstrip().startswith("--"), block))
+        comment = " ".join(line.strip().lstrip("-").strip() for line in above)
+        if not re.match(r" *(?:(?:abbrev|unfoldable) )?pub ", block[len(above)]):
             continue
         if comment or not rows:
             rows.append(([name], comment or header))
@@ -218,8 +220,9 @@ def table(crate):
 def print_table(crate):
     print(f"## `{crate}/specs`\n\n| Name | File | In words |\n|---|---|---|")
     for file, (names, comment) in table(crate):
-        listed, words = ", ".join(f"`{name}`" for name in names), comment.replace("|", "\\|")
-        print(f"| {listed} | `{file.name}` | {words} |")
+        words = comment.replace("|", "\\|")
+        beside = "; beside it " + ", ".join(f"`{name}`" for name in names[1:]) if names[1:] else ""
+        print(f"| `{names[0]}` | `{file.name}` | {words}{beside} |")
     print()
 
 
