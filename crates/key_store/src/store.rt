@@ -3,9 +3,10 @@
 ghost use Rattle.std.specs.Prelude.{◌≡◌, ◌≢◌, ◌<◌, ◌^◌, None, Some, slice_get, length, IsSome, IfOk, IfErr, OnOk, OnErr};
 ghost use Rattle.std.specs.Option.{option_copied, option_copied_mut, option_map, MatchOption};
 ghost use Rattle.std.specs.Borrow.{sem};
+ghost use Rattle.std.specs.Range.Bound.{bound_map};
 ghost use Rattle.core_types.specs.Keys.{no_keys, value_at, deadline_at, with_value, with_deadline, without, renamed, key_count};
 ghost use Rattle.key_store.specs.Lending.{LendsValueOf};
-ghost use Rattle.key_store.specs.Listing.{listed};
+ghost use Rattle.key_store.specs.Listing.{listed, listed_from};
 ghost use Rattle.key_store.specs.NextDue.{IsNextDue, next_due};
 
 use crate::due::{Dues, unless_same};
@@ -15,6 +16,7 @@ use crate::{Entries, Name, PutBack};
 use core_types::{Blob, NoMemory, Value};
 use std::alloc::Global;
 use std::marker::Model;
+use std::ops::Bound;
 
 /// The keys, each with a value and with the moment at which it is due, where it has one.
 #[derive(Drop)]
@@ -165,6 +167,21 @@ impl<N> KeyStore<N> {
         }
     }
 
+    /// Gives the key of this name, which is there, this value and no deadline, and gives back the
+    /// value that it had. Takes no memory.
+    pub fn replace_by(&mut self, name: Name, value: Value<N>) -> Value<N>
+        requires there { IsSome (value_at self.old name) }
+        ensures before { Some result ≡ value_at self.old name }
+        ensures now { self.new ≡ with_value self.old name value }
+    {
+        let deadline = self.deadline(name.as_slice());
+        let before = self
+            .table
+            .exchange(name.as_slice(), Stored::new(value, None));
+        self.dues.forget(name, deadline);
+        before.into_value()
+    }
+
     /// Moves what a key has to another key, with its deadline, and gives the value that the other
     /// key had. The first key must be there, and the other must be another. An `Err` changes
     /// nothing.
@@ -208,7 +225,16 @@ impl<N> KeyStore<N> {
     pub fn iter(&self) -> Entries<'_, N>
         ensures listed { result ≡ listed self.now }
     {
-        self.table.iter()
+        self.iter_from(Bound::Unbounded)
+    }
+
+    /// The keys in byte order, each with its value, from a name on, or after it where it is
+    /// excluded. The name need not be there. Takes no memory, and O(log n) to begin.
+    pub fn iter_from(&self, start: Bound<&Vec<u8>>) -> Entries<'_, N>
+        ensures listed { result
+            ≡ listed_from self.now (bound_map (λ name. name.now.items) start.entry) }
+    {
+        self.table.iter_from(start)
     }
 
     /// Takes out the least key in byte order, with its value, or gives `None` where there is no
