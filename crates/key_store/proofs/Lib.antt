@@ -10,3 +10,4 @@ mod InWords
 mod Merged
 mod Iterated
 mod Counts
+mod Listings

@@ -6,7 +6,7 @@ use Rattle.std.specs.declared.cmp.Ordering.TheVariants.{Less, Equal, Greater}
 use Rattle.std.specs.Ordering.{nat_cmp, is_lt, ordering_reverse}
 use Rattle.std.specs.Cmp.Lexicographic.{slice_cmp, nat_list_cmp_total}
 use Rattle.std.specs.Option.{option_map, MatchOption}
-use Rattle.std.specs.List.{AllByRecursion}
+use Rattle.std.specs.List.{AllByRecursion, filter}
 use Rattle.std.specs.FinMap as finite
 use Rattle.std.specs.FinMap.{put, from_entries, entries-insert, get-from_entries, get-entries, len-entries, same_map}
 use Rattle.std.specs.FinMap.Entries as sorted
@@ -16,6 +16,10 @@ use Rattle.std.proofs.lemmas.Map.Lookups.{exact_bytes}
 use Rattle.std.proofs.lemmas.Option.{none-some}
 use Rattle.core_types.specs.Keys.{Entry, KeysOf, entry_at, key_count, without}
 use Rattle.key_store.specs.inner.Short.{is_short}
+use Rattle.key_store.specs.inner.Starts.{entries_from, IsSameStart}
+use Rattle.key_store.proofs.Listings.{same_passed}
+use Rattle.std.specs.declared.ops.Bound.{Bound}
+use Rattle.std.specs.BTreeMap.Range.{is_from_start}
 use Rattle.key_store.specs.inner.Halves.{both, AllShort, AllLong, comes_first, onto, merged}
 use Rattle.key_store.proofs.Halves.{long_taken, short_taken}
 use Rattle.key_store.proofs.Soonest.{entries_found, first_found, weaker}
@@ -133,6 +137,51 @@ module _ {X : Type 0} where
   made_of_entries : (m : finite.FinMap bytes_cmp X) → from_entries {R = bytes_cmp} (finite.entries m) ≡ m
   made_of_entries m = same_map nat_list_cmp_total exact_bytes _ _ (λ q. get-from_entries nat_list_cmp_total (finite.entries m) q ∙ sym (get-entries m q))
 
+  -- what is left of entries that come after a name comes after it
+  behind_passed : (p : List ℕ × X → Bool) (name : List ℕ) (es : List (List ℕ × X)) → Behind name es → Behind name (filter p es)
+  behind_passed p name [] all = tt
+  behind_passed p name (e ∷ es) all = elim (p e) as (λ b. Behind name (cond b (e ∷ filter p es) (filter p es))) [ true ↦ (all.0, behind_passed p name es all.1) | false ↦ behind_passed p name es all.1 ]
+
+  -- what comes before all of one list stays before them
+  merged_later : (f : List ℕ × X) (es fs : List (List ℕ × X)) → Behind f.0 es → merged es (f ∷ fs) ≡ f ∷ merged es fs
+  merged_later f [] fs all = refl
+  merged_later f (e ∷ es) fs all = ap (λ o. cond (is_lt o) (e ∷ merged es (f ∷ fs)) (f ∷ onto e (merged es) fs)) (above f.0 e.0 all.0)
+
+  -- and what comes before all of the other
+  onto_first : (e : List ℕ × X) (es fs : List (List ℕ × X)) → Behind e.0 fs → onto e (merged es) fs ≡ e ∷ merged es fs
+  onto_first e es [] all = refl
+  onto_first e es (f ∷ fs) all = ap (λ o. cond (is_lt o) (e ∷ merged es (f ∷ fs)) (f ∷ onto e (merged es) fs)) all.0
+
+  one_passed : (p : List ℕ × X → Bool) (e : List ℕ × X) (es fs : List (List ℕ × X)) → ((gs : List (List ℕ × X)) → T (sorted.is_sorted bytes_cmp gs) → AreLong gs → filter p (merged es gs) ≡ merged (filter p es) (filter p gs))
+      → is_short e.0 ≡ true → Behind e.0 es → T (sorted.is_sorted bytes_cmp fs) → AreLong fs
+      → filter p (onto e (merged es) fs) ≡ merged (filter p (e ∷ es)) (filter p fs)
+  one_passed p e es [] rest short all rises long = by (p e)
+    where
+      by : (b : Bool) → cond b (e ∷ filter p (merged es [])) (filter p (merged es [])) ≡ merged (cond b (e ∷ filter p es) (filter p es)) []
+      by true = ap (λ xs. e ∷ xs) (rest [] rises tt)
+      by false = rest [] rises tt
+  one_passed p e es (f ∷ fs) rest short all rises long = by (is_lt (bytes_cmp e.0 f.0)) refl (one_passed p e es fs rest short all (second_part _ _ rises) long.1)
+    where
+      first : bytes_cmp e.0 f.0 ≡ Less → (b : Bool) → cond b (e ∷ filter p (merged es (f ∷ fs))) (filter p (merged es (f ∷ fs))) ≡ merged (cond b (e ∷ filter p es) (filter p es)) (filter p (f ∷ fs))
+      first is true =
+          let behind_e : Behind e.0 (f ∷ fs) = (is, further e.0 f.0 fs is (behind f.0 fs (first_part _ _ rises))) in
+          ap (λ xs. e ∷ xs) (rest (f ∷ fs) rises long) ∙ sym (onto_first e (filter p es) (filter p (f ∷ fs)) (behind_passed p e.0 (f ∷ fs) behind_e))
+      first is false = rest (f ∷ fs) rises long
+
+      later : bytes_cmp f.0 e.0 ≡ Less → filter p (onto e (merged es) fs) ≡ merged (filter p (e ∷ es)) (filter p fs) → (b : Bool) → cond b (f ∷ filter p (onto e (merged es) fs)) (filter p (onto e (merged es) fs)) ≡ merged (filter p (e ∷ es)) (cond b (f ∷ filter p fs) (filter p fs))
+      later over then true = ap (λ xs. f ∷ xs) then ∙ sym (merged_later f (filter p (e ∷ es)) (filter p fs) (behind_passed p f.0 (e ∷ es) (over, further f.0 e.0 es over all)))
+      later over then false = then
+
+      by : (b : Bool) → is_lt (bytes_cmp e.0 f.0) ≡ b → filter p (onto e (merged es) fs) ≡ merged (filter p (e ∷ es)) (filter p fs) → filter p (cond b (e ∷ merged es (f ∷ fs)) (f ∷ onto e (merged es) fs)) ≡ merged (filter p (e ∷ es)) (filter p (f ∷ fs))
+      by true is then = first (is_less (bytes_cmp e.0 f.0) is) (p e)
+      by false is then = later (is_above e.0 f.0 (λ same. true≢false (sym short ∙ ap is_short same ∙ long.0)) is) then (p f)
+
+  -- the part of the merged entries that passes a test is the parts of both, merged
+  pub merged_passed : (p : List ℕ × X → Bool) (es fs : List (List ℕ × X)) → T (sorted.is_sorted bytes_cmp es) → AreShort es → T (sorted.is_sorted bytes_cmp fs) → AreLong fs → filter p (merged es fs) ≡ merged (filter p es) (filter p fs)
+  merged_passed p [] fs rises short rise long = refl
+  merged_passed p (e ∷ es) fs rises short rise long =
+      one_passed p e es fs (λ gs ordered lengths. merged_passed p es gs (second_part _ _ rises) short.1 ordered lengths) short.0 (behind e.0 es (first_part _ _ rises)) rise long
+
   onto_length : (e : List ℕ × X) (rest : List (List ℕ × X) → List (List ℕ × X)) (n : ℕ) → ((gs : List (List ℕ × X)) → length (rest gs) ≡ n + length gs) → (fs : List (List ℕ × X)) → length (onto e rest fs) ≡ suc n + length fs
   onto_length e rest n is [] =
       let here = is [] in
@@ -176,6 +225,17 @@ module _ {N : Type 0} where
   both_entries s l short long =
       folded_entries (finite.entries s) l (finite.entries l) (ap finite.entries (made_of_entries l))
       ∙ sym (merged_folded (finite.entries s) (finite.entries l) (finite.entries_sorted s) (entries_short s short) (entries_long l long))
+
+  pub both_passed : (s l : KeysOf N) (p : List ℕ × Entry N → Bool) → AllShort s → AllLong l → filter p (finite.entries (both s l)) ≡ merged (filter p (finite.entries s)) (filter p (finite.entries l))
+  both_passed s l p short long =
+      ap (filter p) (both_entries s l short long)
+      ∙ merged_passed p (finite.entries s) (finite.entries l) (finite.entries_sorted s) (entries_short s short) (finite.entries_sorted l) (entries_long l long)
+
+  -- the short names of a table from one start on are those from another that is the same for them
+  pub same_short : (s : KeysOf N) (start other : Bound (List ℕ)) → AllShort s → IsSameStart start other → entries_from s start ≡ entries_from s other
+  same_short s start other short same =
+      same_passed (λ e. is_from_start bytes_cmp start e.0) (λ e. is_from_start bytes_cmp other e.0) (finite.entries s)
+      (weaker (λ e. is_short e.0 ≡ true) (λ e. is_from_start bytes_cmp start e.0 ≡ is_from_start bytes_cmp other e.0) (λ e is. same e.0 is) (finite.entries s) (entries_short s short))
 
   pub both_count : (s l : KeysOf N) → AllShort s → AllLong l → key_count (both s l) ≡ key_count s + key_count l
   both_count s l short long =

@@ -9,3 +9,4 @@ pub mod LendsLong
 pub mod LendsShort
 pub mod Names
 pub mod Short
+pub mod Starts

@@ -5,14 +5,14 @@ ghost use Rattle.std.specs.Option.{option_map};
 ghost use Rattle.std.specs.Iterator.{at_most};
 ghost use Rattle.std.specs.Map.Iter.{TakesFirst, deref_pair};
 
-use std::collections::btree_map::Iter;
+use std::collections::btree_map::Range;
 use std::marker::Model;
 
 /// The entries of a tree in order. They are seen as the list of those that are left.
 #[derive(Drop)]
 pub(crate) struct Ahead<'a, K, V> {
     next: Option<(&'a K, &'a V)>,
-    rest: Iter<'a, K, V>,
+    rest: Range<'a, K, V>,
 }
 
 impl<'a, K, V> Model for Ahead<'a, K, V> {
@@ -25,7 +25,7 @@ impl<'a, K, V> Model for Ahead<'a, K, V> {
 }
 
 impl<'a, K, V> Ahead<'a, K, V> {
-    pub(crate) fn new(entries: Iter<'a, K, V>) -> Ahead<'a, K, V>
+    pub(crate) fn new(entries: Range<'a, K, V>) -> Ahead<'a, K, V>
         ensures { result ≡ entries.entry }
     {
         let mut rest = entries;

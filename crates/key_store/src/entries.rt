@@ -10,7 +10,7 @@ use crate::ahead::Ahead;
 use crate::short_name::ShortName;
 use crate::stored::Stored;
 use core_types::Value;
-use std::collections::btree_map::Iter;
+use std::collections::btree_map::Range;
 use std::marker::Model;
 
 /// The keys of a store in byte order, each with its value. It is seen as the list of those that are
@@ -38,8 +38,8 @@ impl<'a, N> Model for Entries<'a, N> {
 
 impl<'a, N> Entries<'a, N> {
     pub(crate) fn new(
-        short: Iter<'a, ShortName, Stored<N>>,
-        long: Iter<'a, Vec<u8>, Stored<N>>,
+        short: Range<'a, ShortName, Stored<N>>,
+        long: Range<'a, Vec<u8>, Stored<N>>,
     ) -> Entries<'a, N>
         ensures { result ≡ map (λ e. (e.0, e.1.value))
             (merged (map (λ e. (e.0, e.1)) short.entry) (map (λ e. (e.0.items, e.1)) long.entry)) }

@@ -19,6 +19,7 @@ mod name;
 mod put_back;
 mod short_name;
 mod short_table;
+mod start;
 mod store;
 mod stored;
 mod table;

@@ -3,15 +3,18 @@
 ghost use Rattle.std.specs.Prelude.{◌≡◌, ◌<◌, ◌^◌, None, map, slice_get, IfOk, IfErr, IfSome, OnOk, OnErr};
 ghost use Rattle.std.specs.Option.{option_copied, option_copied_mut, option_map, MatchOption};
 ghost use Rattle.std.specs.Borrow.{sem};
+ghost use Rattle.std.specs.Range.Bound.{bound_map};
 ghost use Rattle.std.specs.FinMap as finite;
 ghost use Rattle.core_types.specs.Keys.{no_keys, entry_at, with_entry, without, key_count};
 ghost use Rattle.key_store.specs.inner.LendsLong.{LendsLong};
+ghost use Rattle.key_store.specs.inner.Starts.{entries_from};
 
 use crate::stored::Stored;
 use std::alloc::Global;
 use std::collections::BTreeMap;
-use std::collections::btree_map::Iter;
+use std::collections::btree_map::Range;
 use std::marker::Model;
+use std::ops::Bound;
 
 /// The keys with long names, with what they have.
 #[derive(Drop)]
@@ -120,9 +123,11 @@ impl<N> LongTable<N> {
         self.entries.pop_first()
     }
 
-    pub(crate) fn iter(&self) -> Iter<'_, Vec<u8>, Stored<N>>
-        ensures entries { map (λ e. (e.0.items, e.1)) result ≡ finite.entries self.now }
+    // The keys from a name on, or after it.
+    pub(crate) fn iter_from(&self, start: Bound<&Vec<u8>>) -> Range<'_, Vec<u8>, Stored<N>>
+        ensures entries { map (λ e. (e.0.items, e.1)) result
+            ≡ entries_from self.now (bound_map (λ name. name.now.items) start.entry) }
     {
-        self.entries.iter()
+        self.entries.range((start, Bound::Unbounded))
     }
 }

@@ -6,13 +6,15 @@ ghost use Rattle.std.specs.Borrow.{sem};
 ghost use Rattle.std.specs.FinMap as finite;
 ghost use Rattle.core_types.specs.Keys.{no_keys, entry_at, with_entry, without, key_count};
 ghost use Rattle.key_store.specs.inner.LendsShort.{LendsShort};
+ghost use Rattle.key_store.specs.inner.Starts.{entries_from};
 
 use crate::short_name::ShortName;
 use crate::stored::Stored;
 use std::alloc::Global;
 use std::collections::BTreeMap;
-use std::collections::btree_map::Iter;
+use std::collections::btree_map::Range;
 use std::marker::Model;
+use std::ops::Bound;
 
 /// The keys with short names, which lie in the tree, with what they have.
 #[derive(Drop)]
@@ -121,9 +123,10 @@ impl<N> ShortTable<N> {
         self.entries.pop_first()
     }
 
-    pub(crate) fn iter(&self) -> Iter<'_, ShortName, Stored<N>>
-        ensures entries { map (λ e. (e.0, e.1)) result ≡ finite.entries self.now }
+    // The keys from a name on, or after it.
+    pub(crate) fn iter_from(&self, start: Bound<ShortName>) -> Range<'_, ShortName, Stored<N>>
+        ensures entries { map (λ e. (e.0, e.1)) result ≡ entries_from self.now start }
     {
-        self.entries.iter()
+        self.entries.range((start, Bound::Unbounded))
     }
 }

@@ -3,9 +3,10 @@
 ghost use Rattle.std.specs.Prelude.{◌≡◌, ◌≢◌, ◌<◌, ◌^◌, None, Some, slice_get, length, IsSome, IfOk, IfErr, OnOk, OnErr};
 ghost use Rattle.std.specs.Option.{option_copied, option_copied_mut, option_map, MatchOption};
 ghost use Rattle.std.specs.Borrow.{sem};
+ghost use Rattle.std.specs.Range.Bound.{bound_map};
 ghost use Rattle.core_types.specs.Keys.{no_keys, value_at, deadline_at, with_value, with_deadline, without, renamed, key_count};
 ghost use Rattle.key_store.specs.Lending.{LendsValueOf};
-ghost use Rattle.key_store.specs.Listing.{listed};
+ghost use Rattle.key_store.specs.Listing.{listed, listed_from};
 ghost use Rattle.key_store.specs.NextDue.{IsNextDue, next_due};
 
 use crate::due::{Dues, unless_same};
@@ -15,6 +16,7 @@ use crate::{Entries, Name, PutBack};
 use core_types::{Blob, NoMemory, Value};
 use std::alloc::Global;
 use std::marker::Model;
+use std::ops::Bound;
 
 /// The keys, each with a value and with the moment at which it is due, where it has one.
 #[derive(Drop)]
@@ -223,7 +225,16 @@ impl<N> KeyStore<N> {
     pub fn iter(&self) -> Entries<'_, N>
         ensures listed { result ≡ listed self.now }
     {
-        self.table.iter()
+        self.iter_from(Bound::Unbounded)
+    }
+
+    /// The keys in byte order, each with its value, from a name on, or after it where it is
+    /// excluded. The name need not be there. Takes no memory, and O(log n) to begin.
+    pub fn iter_from(&self, start: Bound<&Vec<u8>>) -> Entries<'_, N>
+        ensures listed { result
+            ≡ listed_from self.now (bound_map (λ name. name.now.items) start.entry) }
+    {
+        self.table.iter_from(start)
     }
 
     /// Takes out the least key in byte order, with its value, or gives `None` where there is no

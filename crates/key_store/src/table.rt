@@ -3,21 +3,24 @@
 ghost use Rattle.std.specs.Prelude.{◌≡◌, ◌≢◌, ◌<◌, ◌^◌, None, Some, IsSome, slice_get, IfOk, IfErr, IfSome, OnOk, OnErr};
 ghost use Rattle.std.specs.Option.{option_copied, option_copied_mut, option_map, MatchOption};
 ghost use Rattle.std.specs.Borrow.{sem};
+ghost use Rattle.std.specs.Range.Bound.{bound_map};
 ghost use Rattle.std.specs.FinMap as finite;
 ghost use Rattle.core_types.specs.Keys.{no_keys, entry_at, deadline_at, with_deadline, with_entry, with_value, without, renamed, key_count};
 ghost use Rattle.key_store.specs.inner.Held.{held};
 ghost use Rattle.key_store.specs.inner.Lending.{LendsEntry};
-ghost use Rattle.key_store.specs.Listing.{listed};
+ghost use Rattle.key_store.specs.Listing.{listed_from};
 
 use crate::entries::{Entries, comes_first};
 use crate::long_table::LongTable;
 use crate::name::{Name, Place};
 use crate::short_name::{ShortName, is_short};
 use crate::short_table::ShortTable;
+use crate::start::short_start;
 use crate::stored::Stored;
 use core_types::{NoMemory, Value};
 use std::alloc::Global;
 use std::marker::Model;
+use std::ops::Bound;
 
 /// What a renaming leaves over.
 pub(crate) struct Renamed<N> {
@@ -206,11 +209,13 @@ impl<N> Table<N> {
         }
     }
 
-    // The keys in byte order, each with its value.
-    pub(crate) fn iter(&self) -> Entries<'_, N>
-        ensures listed { result ≡ listed self.now }
+    // The keys from a name on, or after it, in byte order, each with its value.
+    pub(crate) fn iter_from(&self, start: Bound<&Vec<u8>>) -> Entries<'_, N>
+        ensures listed { result
+            ≡ listed_from self.now (bound_map (λ name. name.now.items) start.entry) }
     {
-        Entries::new(self.short.iter(), self.long.iter())
+        let short = self.short.iter_from(short_start(start));
+        Entries::new(short, self.long.iter_from(start))
     }
 
     // Moves what one key has to another.
