@@ -11,8 +11,7 @@ use Rattle.std.specs.BTreeMap as tree
 use Rattle.std.specs.BTreeMap.{BTreeMap, is_at, Updates}
 use Rattle.std.specs.FinMap as map
 use Rattle.std.specs.FinMap.{find, from_entries, get-from_entries, get-insert, get-remove, same_map}
-use Rattle.std.specs.FinMap.{nat_cmp-IsAntisymmetric, put, entries-insert, len-entries, len-empty}
-use Rattle.std.specs.FinMap.Entries.{by_order}
+use Rattle.std.specs.FinMap.{nat_cmp-IsAntisymmetric, len-empty}
 
 module _ {X : Type 0} where
   find-lookup : (es : List (ℕ × X)) (q : ℕ) → find nat_cmp q es ≡ lookup (is_at (nat_cmp q)) es
@@ -60,23 +59,6 @@ module _ {X : Type 0} where
       (get-from_entries nat_cmp_total es e.0 ∙ none_at e.0 es rises.0)
       ∙ ap (λ n. n + 1) (len-sorted es rises.1) ∙ add-one (length es)
 
-  no_length : (es : List (ℕ × X)) → length es ≡ 0 → es ≡ []
+  pub no_length : (es : List (ℕ × X)) → length es ≡ 0 → es ≡ []
   no_length [] e = refl
   no_length (x ∷ es) e = absurd (omega arith)
-
-  put_first : (e : ℕ × X) (es : List (ℕ × X))
-      → AllByRecursion (λ y. nat_cmp e.0 y ≡ Less) (keys_of es) → put nat_cmp e.0 e.1 es ≡ e ∷ es
-  put_first e [] above = refl
-  put_first e (f ∷ es) above =
-      ap (λ r. by_order r (e ∷ f ∷ es) ((f.0, e.1) ∷ es) (f ∷ put nat_cmp e.0 e.1 es)) above.0
-
-  -- the entries of the map are those of the tree, where their keys rise
-  pub entries-sorted : (es : List (ℕ × X)) → IsStrictlySortedBy nat_cmp (keys_of es)
-      → map.entries (from_entries {R = nat_cmp} es) ≡ es
-  unfolding IsStrictlySortedBy
-  entries-sorted [] rises =
-      no_length (map.entries (map.empty {X = X} {R = nat_cmp}))
-      (sym (len-entries (map.empty {X = X} {R = nat_cmp})) ∙ len-empty nat_cmp X)
-  entries-sorted (e ∷ es) rises =
-      entries-insert nat_cmp_total (from_entries es) e.0 e.1
-      ∙ ap (put nat_cmp e.0 e.1) (entries-sorted es rises.1) ∙ put_first e es rises.0

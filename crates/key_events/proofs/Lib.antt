@@ -9,3 +9,4 @@ pub mod Standing
 pub mod Agreeing
 pub mod Renamed
 pub mod Few
+pub mod Told

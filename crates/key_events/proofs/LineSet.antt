@@ -59,7 +59,7 @@ pub without_client : (s : set.FinSet nat_cmp) (d q : ℕ)
 without_client s d q = contains-remove nat_cmp_total s d q
     ∙ ap (λ b. not b && set.contains s q) (unsigned_tied q d)
 
-none_at : (k : ℕ) (ks : List ℕ) → AllByRecursion (λ y. nat_cmp k y ≡ Less) ks
+pub none_at : (k : ℕ) (ks : List ℕ) → AllByRecursion (λ y. nat_cmp k y ≡ Less) ks
     → list_any (eq_by_cmp nat_cmp k) ks ≡ false
 none_at k [] above = refl
 none_at k (y ∷ ks) above = ap (λ o. is_eq o || list_any (eq_by_cmp nat_cmp k) ks) above.0

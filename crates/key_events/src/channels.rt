@@ -3,7 +3,8 @@
 ghost use Rattle.std.specs.Prelude.{◌≡◌, IfOk, OnOk, OnErr};
 ghost use Rattle.std.specs.Option.{option_copied};
 ghost use Rattle.key_events.specs.Subscribers.{nobody, subscribed, unsubscribed, dropped};
-ghost use Rattle.key_events.specs.Subscribers.{has_class, is_subscribed, count_of, oldest, names_of};
+ghost use Rattle.key_events.specs.Subscribers.{has_class, is_subscribed, count_of, oldest};
+ghost use Rattle.key_events.specs.Subscribers.{names_of};
 ghost use Rattle.key_events.specs.Outcomes.{SubscribeCause};
 ghost use Rattle.key_events.specs.Messages.{messages};
 
@@ -131,13 +132,17 @@ impl Channels {
     /// the key, then the key on the channel of the event. On each channel first those who have it
     /// are told, then those whose patterns match it, once for each pattern; both by rising number
     /// of the client, and the patterns of one client the oldest first. Looks at each pattern once,
-    /// however many have it, and else at those alone who are told.
+    /// however many have it, and else at those alone who are told; where nobody has a channel or a
+    /// pattern it is O(1) and takes no memory.
     pub fn messages(&self, note: &Note) -> Result<Outs, NoMemory>
         ensures messages { IfOk result (λ outs. outs ≡ messages self.now note.now) }
     {
+        let mut outs = Outs::new(self.alloc);
+        if self.rolls.is_empty() {
+            return Ok(outs);
+        }
         let space = keyspace_channel(self.alloc, note.key.as_slice())?;
         let event = keyevent_channel(self.alloc, note.name.as_slice())?;
-        let mut outs = Outs::new(self.alloc);
         let name = note.name.as_slice();
         let key = note.key.as_slice();
         tell(&mut outs, self.alloc, &self.rolls, space.as_slice(), name)?;

@@ -1,6 +1,6 @@
 //! Which client has which names, of one sort: channels or patterns.
 
-ghost use Rattle.std.specs.Prelude.{◌≡◌, false, length, IfOk, OnOk, OnErr};
+ghost use Rattle.std.specs.Prelude.{◌≡◌, ◌==◌, false, length, IfOk, OnOk, OnErr};
 ghost use Rattle.std.specs.Option.{option_copied};
 ghost use Rattle.std.specs.FinMap as map;
 ghost use Rattle.key_events.specs.Rolls.{has_name, names_at, with_new_name, without_name};
@@ -44,6 +44,13 @@ impl Roll {
             table: Table::new(alloc),
             lines: Lines::new(alloc),
         }
+    }
+
+    // Whether no client has a name.
+    pub(crate) fn is_empty(&self) -> bool
+        ensures empty { result ≡ (map.len self.now == 0) }
+    {
+        self.table.is_empty()
     }
 
     // The names of a client that has one.

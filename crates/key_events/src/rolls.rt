@@ -4,6 +4,7 @@ ghost use Rattle.std.specs.Prelude.{◌≡◌, false, length, OnOk, OnErr};
 ghost use Rattle.key_events.specs.Rolls.{names_at, with_new_name};
 ghost use Rattle.key_events.specs.Subscribers.{nobody, roll_of, with_roll, is_subscribed};
 ghost use Rattle.key_events.specs.Subscribers.{unsubscribed, dropped};
+ghost use Rattle.key_events.specs.inner.Bounds.{have_none};
 
 use crate::roll::Roll;
 use sequences::NoMemory;
@@ -35,6 +36,13 @@ impl Rolls {
             channels: Roll::new(alloc),
             patterns: Roll::new(alloc),
         }
+    }
+
+    // Whether no client has a channel or a pattern.
+    pub(crate) fn is_empty(&self) -> bool
+        ensures empty { result ≡ have_none self.now }
+    {
+        self.channels.is_empty() && self.patterns.is_empty()
     }
 
     // The patterns, or the channels.

@@ -1,6 +1,7 @@
 //! The names of each client.
 
-ghost use Rattle.std.specs.Prelude.{◌≡◌, ◌==◌, ◌++◌, ◌∷◌, [], not, false, None, filter, length, OnOk, OnErr};
+ghost use Rattle.std.specs.Prelude.{◌≡◌, ◌==◌, ◌++◌, ◌∷◌, [], not, false, None, filter, length};
+ghost use Rattle.std.specs.Prelude.{OnOk, OnErr};
 ghost use Rattle.std.specs.Option.{option_copied, option_map_or};
 ghost use Rattle.std.specs.Ordering.{nat_cmp};
 ghost use Rattle.std.specs.Str.{bytes_eq};
@@ -46,6 +47,13 @@ impl Table {
         ensures names { option_copied result ≡ map.get self.now client }
     {
         self.clients.get(&client)
+    }
+
+    // Whether no client has a name.
+    pub(crate) fn is_empty(&self) -> bool
+        ensures empty { result ≡ (map.len self.now == 0) }
+    {
+        self.clients.len() == 0
     }
 
     // Adds a name behind those that the client has.

@@ -14,8 +14,8 @@ pub(crate) enum Walk<'a> {
 }
 
 impl<'a> Walk<'a> {
-    // Goes through both from their beginning. Takes as many turns as the part before the first `*` has
-    // pieces, or the text bytes, and one.
+    // Goes through both from their beginning. Takes as many turns as the part before the first `*`
+    // has pieces, or the text bytes, and one.
     pub(crate) fn of(pattern: &'a [u8], text: &'a [u8]) -> Walk<'a>
         ensures walked { Walked pattern.now text.now result }
     {

@@ -1,4 +1,4 @@
--- The clients that wait, by their keys.
+-- The clients that have a name, by their names.
 use Rattle.std.specs.Prelude.{◌≡◌, ℕ, ◌==◌, ◌&&◌, Bool, false, if◌then◌else◌, List, Option, Some}
 use Rattle.std.specs.Prelude.{unwrap_or}
 use Rattle.std.specs.Option.{option_map_or, MatchOption}
@@ -19,7 +19,7 @@ LineSet = set.FinSet nat_cmp
 abbrev pub coded_line : Coded LineSet
 coded_line = set.code coded_ℕ
 
--- the clients that wait on each name
+-- the clients that have each name
 abbrev pub LinesMap : Type 0
 LinesMap = map.FinMap (slice_cmp nat_cmp) LineSet
 
