@@ -43,7 +43,12 @@ among_inserted q new (k ∷ keys) is = among_of_order (slice_cmp nat_cmp new k) 
 
 pub fits_later : (flushes : ℕ) (before now : Watchers) (client : ℕ) (o : Option Entry) → Keeps before now → IfSome o (Fits flushes before client) → IfSome o (Fits flushes now client)
 fits_later flushes before now client None kept fits = tt
-fits_later flushes before now client (Some e) kept fits = record { past = fits.past; early = fits.early; indexed = λ key among. kept key client (fits.indexed key among) }
+fits_later flushes before now client (Some e) kept fits = record {
+  past = fits.past;
+  early = fits.early;
+  indexed = λ key among. kept key client (fits.indexed key among);
+  few = fits.few;
+}
 
 fits_of_test : (flushes : ℕ) (now : Watchers) (k q : ℕ) (w : Entry) (o : Option Entry) (t : Bool) → (t ≡ true → k ≡ q) → Fits flushes now k w → IfSome o (Fits flushes now q) → IfSome (cond t (Some w) o) (Fits flushes now q)
 fits_of_test flushes now k q w o true same fits rest = subst (λ client. Fits flushes now client w) (same refl) fits

@@ -131,11 +131,21 @@ impl Book {
     /// The number of bytes that a client may take.
     pub fn flushed(&self, client: u64) -> u64
         ensures bytes { result ≡ free_of (listed self.now client) }
-        ensures front { IfSome (listed self.now client) IsFront }
     {
         match self.clients.get(&client) {
             Some(entry) => entry.outbox.free(self.flushes),
             None => 0,
+        }
+    }
+
+    /// What is always so of a client: at most 1,024 items wait for it, and what it may take is a
+    /// front of what it was told. A law, which is called by proofs alone.
+    pub fn bounds(&self, client: u64)
+        ensures pending { length (pending_of (listed self.now client)) ≤ 1024 }
+        ensures front { IfSome (listed self.now client) IsFront }
+    {
+        if let Some(entry) = self.clients.get(&client) {
+            let _free = entry.outbox.free(self.flushes);
         }
     }
 

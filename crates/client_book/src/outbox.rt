@@ -1,6 +1,6 @@
 //! The replies that wait for a client, as the bytes that are sent.
 
-ghost use Rattle.std.specs.Prelude.{◌≡◌, ◌-◌, ◌≤◌, ◌++◌, length, take, drop, min, IfOk, OnOk, OnErr};
+ghost use Rattle.std.specs.Prelude.{◌≡◌, ◌+◌, ◌-◌, ◌≤◌, ◌++◌, length, take, drop, min, IfOk, OnOk, OnErr};
 ghost use Rattle.resp_codec.specs.ReplyText.{text};
 ghost use Rattle.client_book.specs.inner.Outbox.{new_outgoing, free_at, holds, lets_go};
 
@@ -159,6 +159,7 @@ fn let_go(bytes: &mut Vec<u8>, taken: usize) -> usize
     requires { taken ≤ length bytes.old.items }
     ensures kept { result ≤ length bytes.new.items }
     ensures same { drop result bytes.new.items ≡ drop taken bytes.old.items }
+    ensures few { 4096 ≤ result → result + result ≤ length bytes.new.items }
 {
     let rest = bytes.len() - taken;
     if taken < rest || (taken < SMALL && rest > 0) {

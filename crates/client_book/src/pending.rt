@@ -1,6 +1,6 @@
 //! What waits for a client that waits itself.
 
-ghost use Rattle.std.specs.Prelude.{◌≡◌, ◌↔◌, ◌++◌, [], ◌∷◌, length, IfErr, OnOk, OnErr, Err};
+ghost use Rattle.std.specs.Prelude.{◌≡◌, ◌≤◌, ◌↔◌, ◌++◌, [], ◌∷◌, length, IfErr, OnOk, OnErr, Err};
 ghost use Rattle.client_book.specs.Pending.{given_back};
 
 use core_types::{Args, BadRequest, Duplicate, NoMemory};
@@ -40,6 +40,8 @@ pub enum PendFault {
 /// Adds an item to those that wait. An `Err` changes nothing and hands the item back; it is
 /// `TooMany` exactly where 1,024 wait already.
 pub(crate) fn push_pending(items: &mut VecDeque<Pending>, item: Pending) -> Result<(), PendFault>
+    requires few { length items.old.items ≤ 1024 }
+    ensures few { length items.new.items ≤ 1024 }
     ensures ok { OnOk result (items.new.items ≡ items.old.items ++ item ∷ []) }
     ensures too_many { (result ≡ Err (PendFault.TooMany item)) ↔ (length items.old.items ≡ 1024) }
     ensures given_back { IfErr result (λ fault. given_back fault ≡ item) }

@@ -1,6 +1,6 @@
 //! The keys that a client watches.
 
-ghost use Rattle.std.specs.Prelude.{◌≡◌, [], IfOk, OnOk, OnErr};
+ghost use Rattle.std.specs.Prelude.{◌≡◌, [], map, IfOk, OnOk, OnErr};
 ghost use Rattle.std.specs.Ordering.{nat_cmp};
 ghost use Rattle.std.specs.Cmp.Lexicographic.{slice_cmp};
 ghost use Rattle.std.specs.BTreeSet.{insert_key};
@@ -64,7 +64,9 @@ impl Watched {
     }
 
     /// The keys, to be gone through.
-    pub(crate) fn into_keys(self) -> BTreeSet<Vec<u8>> {
+    pub(crate) fn into_keys(self) -> BTreeSet<Vec<u8>>
+        ensures keys { map (λ key. key.items) result.keys ≡ self }
+    {
         let Watched { keys } = self;
         keys
     }

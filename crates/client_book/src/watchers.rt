@@ -1,6 +1,6 @@
 //! Which clients watch a key.
 
-ghost use Rattle.std.specs.Prelude.{◌≡◌, true, OnOk};
+ghost use Rattle.std.specs.Prelude.{◌≡◌, ℕ, true, false, List, OnOk};
 ghost use Rattle.std.specs.Option.{option_copied};
 
 use crate::watched::Watched;
@@ -8,14 +8,15 @@ use core_types::NoMemory;
 use std::alloc::Global;
 use std::collections::{BTreeMap, BTreeSet};
 
-/// For each watched key the clients that watch it. A client that watches no longer may be listed
-/// still, as far as contracts go: what watches is in the client's own record.
+/// For each watched key the clients that watch it. What watches is in the client's own record too,
+/// from which it is known which keys to forget.
 #[derive(Debug, Drop)]
 pub(crate) struct Watchers {
     pub(crate) clients: BTreeMap<Vec<u8>, BTreeSet<u64>>,
 }
 
 impl Watchers {
+    ghost use Rattle.client_book.specs.Client.{is_among};
     ghost use Rattle.client_book.specs.inner.Watching.{watchers_of, is_listed, Keeps, KeepsOthers, KeepsAllBut};
 
     /// No watched keys. Takes no memory.
@@ -49,6 +50,8 @@ impl Watchers {
 
     /// Lists a client for a key no longer.
     pub(crate) fn remove(&mut self, key: &[u8], client: u64)
+        ensures gone { is_listed self.new key.now client ≡ false }
+        ensures no_other { Keeps self.new self.old }
         ensures kept { KeepsOthers key.now client self.old self.new }
     {
         let Some(clients) = self.clients.get_mut(key) else {
@@ -62,6 +65,9 @@ impl Watchers {
 
     /// Lists a client for these keys no longer.
     pub(crate) fn forget(&mut self, keys: Watched, client: u64)
+        ensures gone { (key : List ℕ) → is_among key keys ≡ true
+            → is_listed self.new key client ≡ false }
+        ensures no_other { Keeps self.new self.old }
         ensures kept { KeepsAllBut client self.old self.new }
     {
         for key in keys.into_keys() {

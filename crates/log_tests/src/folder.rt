@@ -165,3 +165,31 @@ fn links(rt: HostRuntime) -> Result<(), Fail> {
     assert!(rt; missing && made && replaced);
     Ok(())
 }
+
+// A sync of the names fails, and each further one, whatever is done in between.
+fn names_stay_unsynced(dir: &mut RealDir<HostRuntime>) -> bool {
+    dir.sync_names().is_err()
+        && dir.create(FileName::LogTemp).is_ok()
+        && dir.rename(FileName::LogTemp, FileName::Dump).is_ok()
+        && dir.sync(FileName::Dump).is_ok()
+        && dir.sync_names().is_err()
+}
+
+// A folder that the system refuses to sync, and one of a file that a link names: the names are
+// never told as safe.
+#[test]
+fn unsynced_names(rt: HostRuntime) -> Result<(), Fail> {
+    let alloc = rt.alloc();
+    empty_folder(&rt, "names")?;
+    symlink(&rt, "/proc/self/status", "names/dump.rdb")?;
+    let mut dir = RealDir::new(rt, alloc, "names")?;
+    let linked = names_stay_unsynced(&mut dir);
+    drop(dir);
+    assert!(rt; linked);
+    let mut dir = RealDir::new(rt, alloc, "/proc/self")?;
+    let there = reads(&mut dir, alloc, FileName::Log, None);
+    let failed = dir.sync_names().is_err() && dir.sync_names().is_err();
+    drop(dir);
+    assert!(rt; there && failed);
+    Ok(())
+}

@@ -1,5 +1,5 @@
 -- What an entry of the book's table stands for, and how it fits the rest of the book.
-use Rattle.std.specs.Prelude.{◌≡◌, ℕ, ◌+◌, ◌-◌, ◌^◌, ◌==◌, ◌≤◌, ◌<◌, ◌||◌, true, List, IfSome, if◌then◌else◌}
+use Rattle.std.specs.Prelude.{◌≡◌, ℕ, ◌+◌, ◌-◌, ◌^◌, ◌==◌, ◌≤◌, ◌<◌, ◌||◌, true, List, length, IfSome, if◌then◌else◌}
 use Rattle.std.specs.Option.{option_map}
 use Rattle.std.specs.Ordering.{nat_cmp}
 use Rattle.std.specs.BTreeMap.{BTreeMap, get}
@@ -32,12 +32,14 @@ shown flushes entry =
 abbrev pub marked : List ℕ → Entry → Entry
 marked key entry = record entry { touched = entry.touched || is_among key entry.watched }
 
--- it knows no later flush than the last one, and each key that it watches lists it
+-- it knows no later flush than the last one, each key that it watches lists it, and at most 1,024
+-- items wait for it
 pub record Fits (flushes : ℕ) (watchers : Watchers) (client : ℕ) (entry : Entry) : Type 0 where
   pub past : entry.outbox.flushes ≤ flushes
   pub early : entry.outbox.flushes < 2 ^ 64 - 1
   pub indexed : (key : List ℕ) → is_among key entry.watched ≡ true
       → is_listed watchers key client ≡ true
+  pub few : length entry.pending.items ≤ 1024
 
 abbrev pub AllFit : ℕ → Watchers → BTreeMap ℕ Entry → Type 0
 AllFit flushes watchers clients = (client : ℕ)

@@ -25,9 +25,10 @@ abbrev pub lets_go : ℕ → ℕ → Outgoing → Outgoing
 lets_go n flushes box =
     record box { from = box.from + n; told = drop n box.told; free = free_at flushes box - n }
 
--- of the bytes that are kept the first `start` were taken, and of the others no more than all may
--- be
+-- of the bytes that are kept the first `start` were taken: fewer than 4,096, or at most half of
+-- them; and of the others no more than all may be
 pub record IsWhole (bytes : List ℕ) (start from free : ℕ) : Type 0 where
   pub taken : start ≤ length bytes
+  pub few : 4096 ≤ start → start + start ≤ length bytes
   pub within : start + free ≤ length bytes
   pub fits : from + (length bytes - start) < 2 ^ 64

@@ -210,6 +210,7 @@ impl RealFolder {
 
     // Syncs the folder, and that of each file which a symbolic link in it names.
     fn sync_owed_names(&mut self, rt: &impl Files<File = File>) -> io::Result<()>
+        requires unfailed { self.old.names ≢ Synced.Failed }
         ensures ok { OnOk result (self.new ≡ record self.old { names = Synced.Yes }) }
         ensures err { OnErr result
             ((self.new ≡ self.old) ⊎ (self.new ≡ record self.old { names = Synced.Failed })) }
@@ -220,8 +221,16 @@ impl RealFolder {
         self.sync_home(rt, FileName::DumpTemp)?;
         let folder = self.open(rt)?;
         self.sync_folder(&folder)?;
-        self.names = Synced::Yes;
+        self.note_names_synced();
         Ok(())
+    }
+
+    // Notes that the names are on the disk, which no failed sync has left open.
+    fn note_names_synced(&mut self)
+        requires unfailed { self.old.names ≢ Synced.Failed }
+        ensures synced { self.new ≡ record self.old { names = Synced.Yes } }
+    {
+        self.names = Synced::Yes;
     }
 
     // Where a file is a symbolic link, syncs the folder of what it names.

@@ -34,6 +34,7 @@ invariant_of-self-in_default-insert c =
           (λ same. ap (λ k. is_listed c.add.new.self k c.args.client) same ∙ c.in_ok-add.ensures.added)
           (λ old. c.in_ok-add.ensures.kept key c.args.client (fits.indexed key old))
           (among_inserted key c.args.key.now e.watched (ap (is_among key) (sym c.in_default-insert.ensures.ok) ∙ among));
+      few = fits.few;
     })
 
 pub returns-in_default-insert-clause-ok : goal.returns-in_default-insert-clause-ok

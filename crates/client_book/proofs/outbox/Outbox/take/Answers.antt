@@ -10,4 +10,9 @@ invariant_of-self c =
     sym (length-drop c.let_go-self-inside.result kept) ∙ ap length c.let_go-self-inside.ensures.same ∙ length-drop end bytes in
     let waits : length c.args.self.now.told ≡ length bytes - c.self.inside.start =
     ap (λ box. length box.told) (sym c.self.view_is) ∙ length-drop c.self.inside.start bytes in
-    record { taken = c.let_go-self-inside.ensures.kept; within = omega (arith, c.free-free.ensures.within); fits = omega (arith, c.self.invariant.fits, c.free-free.ensures.within) }
+    record {
+      taken = c.let_go-self-inside.ensures.kept;
+      few = c.let_go-self-inside.ensures.few;
+      within = omega (arith, c.free-free.ensures.within);
+      fits = omega (arith, c.self.invariant.fits, c.free-free.ensures.within);
+    }
