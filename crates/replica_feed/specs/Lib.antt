@@ -1,0 +1,4 @@
+pub mod Frames
+pub mod Units
+pub mod Runs
+pub mod Applying
