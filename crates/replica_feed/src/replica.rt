@@ -47,6 +47,8 @@ impl Model for Place {
     ghost Value = { applying.Place };
 
     ghost view = { λ p. record { run = p.run; number = p.number } };
+
+    ghost inverse = { λ p. record { run = p.run; number = p.number } };
 }
 
 /// Keys that follow a run of a host, frame by frame.
