@@ -59,18 +59,18 @@ IsTaken (applied.NeedsFresh number) = ⊥
 
 -- What a frame makes of the keys: those of its file, or what its effects make of them.
 abbrev pub Makes : Meaning → (List ℕ → Keys → Type 0) → Frame → Keys → Keys → Type 0
-Makes replay saved (frame.Full run number file) keys then = saved file then
-Makes replay saved (frame.Unit run from to effects) keys then = replayed replay keys effects ≡ Ok then
+Makes replay saved (frame.Full run number file) keys after = saved file after
+Makes replay saved (frame.Unit run from to effects) keys after = replayed replay keys effects ≡ Ok after
 
 -- an effect makes nothing of what those before it made of the keys
 pub record RefusesOne (replay : Meaning) (keys : Keys) (effects : List Effect) (why : Reason)
     : Type 0 where
   pub count : ℕ
   pub effect : Effect
-  pub then : Keys
+  pub after : Keys
   pub there : slice_get effects count ≡ Some effect
-  pub before : replayed replay keys (take count effects) ≡ Ok then
-  pub refused : Refuses replay then effect why
+  pub before : replayed replay keys (take count effects) ≡ Ok after
+  pub refused : Refuses replay after effect why
 
 -- A frame makes nothing of the keys: the place in its file, or 0, and why.
 abbrev pub MakesNothing : Meaning → (List ℕ → Bool → ℕ → Reason → Type 0) → Frame → Keys → ℕ

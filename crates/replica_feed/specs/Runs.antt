@@ -49,4 +49,5 @@ pub record IsBacklogOf (r : Run) (b : Backlog) : Type 0 where
   pub end : b.end ≡ length r.events
   pub units : AreStretches r b.units
   pub quiet : ℕ
+  pub end_is : b.end ≡ last_to b.first b.units + quiet
   pub after : drop (last_to b.first b.units) r.events ≡ replicate quiet []
