@@ -4,3 +4,4 @@ pub mod Stretches
 pub mod Following
 pub mod Backlogs
 pub mod Replaying
+pub mod FrameWords

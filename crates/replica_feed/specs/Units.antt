@@ -6,6 +6,7 @@ use Rattle.core_types.specs.Shown.{Backlog, NumberedEffects}
 use Rattle.effect_log.specs.Unit.{IsLoggable}
 use Rattle.replica_feed.specs.declared.frame.Frame.{Frame}
 use Rattle.replica_feed.specs.declared.frame.Frame.TheVariants as frame
+use Rattle.replica_feed.specs.Frames.{IsForward, IsLoggableFrame}
 use Rattle.replica_feed.specs.declared.backlog.Since.{Since}
 use Rattle.replica_feed.specs.declared.backlog.Since.TheVariants as since
 
@@ -70,8 +71,6 @@ AreKept first (u ∷ units) end = (u.from ≡ first) × (first < u.to) × (0 < l
 
 -- where a frame comes, it can be written
 abbrev pub IsWritable : Since → Type 0
-IsWritable (since.Frame (frame.Full run number file)) = ⊤
-IsWritable (since.Frame (frame.Unit run from to effects)) = (from < to)
-    × AllByRecursion IsLoggable effects
+IsWritable (since.Frame f) = IsForward f × IsLoggableFrame f
 IsWritable since.Caught = ⊤
 IsWritable (since.Behind first) = ⊤

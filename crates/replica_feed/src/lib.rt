@@ -23,6 +23,6 @@ mod writing;
 pub use backlog::{Backlog, Since};
 pub use frame::Frame;
 pub use fronts::FrontReplayer;
-pub use laws::{backlog_stands, replica_follows};
+pub use laws::{backlog_stands, frames_read_back, replica_follows};
 pub use replica::{Applied, Replica};
 pub use writing::{WriteStop, write_frame};
