@@ -1,6 +1,6 @@
 -- A backlog of a run. It serves the law on backlogs.
-use Rattle.std.proofs.Common.{◌≡◌, ℕ, ◌+◌, ◌-◌, ◌<◌, ◌≤◌, Bool, true, false, cond, if◌then◌else◌, nat_lt, nat_le, List, [], ◌∷◌, ◌++◌, length, take, drop, replicate, zero, suc, Option, None, Some, refl, sym, ap, ◌∙◌, arith, length-append, drop_of_length-le}
-use Rattle.std.specs.List.{AllByRecursion, find}
+use Rattle.std.proofs.Common.{◌≡◌, ℕ, ◌+◌, ◌-◌, ◌<◌, ◌≤◌, Bool, true, false, cond, if◌then◌else◌, nat_lt, List, [], ◌∷◌, ◌++◌, length, take, drop, replicate, zero, suc, Option, Some, refl, sym, ap, ◌∙◌, arith, length-append, drop_of_length-le}
+use Rattle.std.specs.List.{find}
 use Rattle.std.proofs.lemmas.Bool.Decides.{nat_tests}
 use Rattle.std.proofs.lemmas.List.{drop-replicate, drop-drop, drop-append-le, take-append-le}
 use Rattle.core_types.specs.Keys.{Keys}
@@ -9,7 +9,7 @@ use Rattle.core_types.specs.Shown.{Backlog, NumberedEffects}
 use Rattle.effect_log.specs.Replay.{Meaning}
 use Rattle.replica_feed.specs.declared.frame.Frame.{Frame}
 use Rattle.replica_feed.specs.declared.backlog.Since.TheVariants as since
-use Rattle.replica_feed.specs.Units.{AreKept, last_to, frame_from, since_in, one_later, with_unit, without_oldest, within_most, pushed, most_units}
+use Rattle.replica_feed.specs.Units.{AreKept, last_to, frame_from, since_in, one_later, with_unit, without_oldest, pushed, most_units}
 use Rattle.replica_feed.specs.Runs.{Run, IsStretch, StandsFor, AreStretches, IsBacklogOf, with_event}
 use Rattle.replica_feed.proofs.Stretches.{none, quiet_more, stretch_later}
 

@@ -1,9 +1,9 @@
 -- What a frame makes of a replica that follows a run. It serves the law on replicas.
-use Rattle.std.proofs.Common.{◌≡◌, ℕ, ◌<◌, ◌≤◌, Bool, true, false, not, nat_lt, nat_le, ◌==◌, if◌then◌else◌, List, [], ◌∷◌, Option, None, Some, refl, sym, ap, ◌∙◌, arith, rules}
+use Rattle.std.proofs.Common.{◌≡◌, ℕ, ◌<◌, ◌≤◌, List, [], ◌∷◌, Option, None, Some, refl, arith}
 use Rattle.std.specs.List.{AllByRecursion}
 use Rattle.std.proofs.lemmas.Bool.Decides.{nat_tests}
 use Rattle.core_types.specs.Keys.{Keys, no_keys}
-use Rattle.effect_log.specs.Replay.{Meaning, replayed}
+use Rattle.effect_log.specs.Replay.{Meaning}
 use Rattle.replica_feed.specs.declared.frame.Frame.{Frame}
 use Rattle.replica_feed.specs.declared.frame.Frame.TheVariants as frame
 use Rattle.replica_feed.specs.declared.replica.Applied.{Applied}

@@ -1,5 +1,5 @@
 -- The texts of frames, word by word. It serves the clauses `ok` and `err` of the two that append.
-use Rattle.std.proofs.Common.{◌≡◌, ◌≤◌, ℕ, List, [], ◌∷◌, ◌++◌, length, take, codes, Result, Ok, Err, OnOk, OnErr, arith, rules, refl, lit<, ap, ◌∙◌, sym, append_assoc, append-nil, length-append}
+use Rattle.std.proofs.Common.{◌≡◌, ℕ, List, [], ◌∷◌, ◌++◌, length, take, codes, Result, Ok, Err, OnOk, OnErr, arith, refl, lit<, ap, ◌∙◌, sym, append_assoc, append-nil, length-append}
 use Rattle.std.proofs.lemmas.Fmt.{decimal_digit}
 use Rattle.std.proofs.lemmas.List.{take-take, take_at}
 use Rattle.resp_codec.specs.Spelling.{multibulk, bulk}

@@ -1,6 +1,6 @@
 -- Units that are kept. It serves the invariant of a backlog, and the clauses of `push` and `since`.
-use Rattle.std.proofs.Common.{◌≡◌, ◌≢◌, ℕ, ◌+◌, ◌-◌, ◌<◌, ◌≤◌, Bool, true, false, cond, List, [], ◌∷◌, ◌++◌, length, get_or, take, drop, zero, suc, slice_get, Option, None, Some, nat_lt, leb, ◌==◌, refl, sym, ap, ◌∙◌, arith, length-drop}
-use Rattle.std.specs.List.{AllByRecursion, AllWithin, find}
+use Rattle.std.proofs.Common.{◌≡◌, ℕ, ◌+◌, ◌-◌, ◌<◌, ◌≤◌, Bool, true, false, cond, List, [], ◌∷◌, ◌++◌, length, get_or, take, drop, zero, suc, slice_get, Option, Some, nat_lt, leb, ◌==◌, refl, sym, ap, ◌∙◌, arith, length-drop}
+use Rattle.std.specs.List.{AllByRecursion, find}
 use Rattle.std.specs.List.Sorted.{IsNonDecreasingBy, IsPartitionPoint}
 use Rattle.std.proofs.lemmas.Bool.Decides.{nat_tests}
 use native.Mathlib.Numerals.{unary_clauses}

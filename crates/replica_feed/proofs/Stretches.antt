@@ -1,13 +1,13 @@
 -- Events of a run, of which most have no effects. It serves the laws on replicas and backlogs.
-use Rattle.std.proofs.Common.{◌≡◌, ℕ, ◌+◌, ◌-◌, ◌<◌, ◌≤◌, List, [], ◌∷◌, ◌++◌, length, take, drop, replicate, zero, suc, Ok, refl, sym, ap, ◌∙◌, arith, append-nil}
-use Rattle.std.proofs.lemmas.List.{length-replicate, drop-replicate, drop-drop, drop-append-le, take-append-drop, take-append-le, take-take}
+use Rattle.std.proofs.Common.{◌≡◌, ℕ, ◌+◌, ◌-◌, ◌<◌, ◌≤◌, List, [], ◌∷◌, ◌++◌, take, drop, replicate, zero, suc, Ok, refl, sym, ap, ◌∙◌, arith, append-nil}
+use Rattle.std.proofs.lemmas.List.{length-replicate, drop-replicate, drop-drop, drop-append-le, take-append-drop, take-take}
 use Rattle.std.proofs.lemmas.List.Concat.{flat_map-append}
 use Rattle.core_types.specs.Keys.{Keys}
 use Rattle.core_types.specs.declared.effect.Effect.{Effect}
 use Rattle.effect_log.specs.Replay.{Meaning, replayed}
 use Rattle.effect_log.specs.Written.{effects_in}
 use Rattle.effect_log.proofs.Replays.{replayed-on}
-use Rattle.replica_feed.specs.Runs.{Run, HasKeys, IsStretch, with_event}
+use Rattle.replica_feed.specs.Runs.{Run, HasKeys, IsStretch}
 
 abbrev pub none : List Effect
 none = []

@@ -20,12 +20,7 @@ pub trait FrontReplayer: Replayer {
     /// Takes the keys of the file that begins the bytes, and says how long it is. Where it is to be
     /// `whole`, it is all bytes. There must be no keys yet. A replayer that refused a file, or
     /// could not go on, is to be given up.
-    fn load_front(
-        &mut self,
-        alloc: Global,
-        bytes: &[u8],
-        whole: bool,
-    ) -> Result<u64, ReplayStop>
+    fn load_front(&mut self, alloc: Global, bytes: &[u8], whole: bool) -> Result<u64, ReplayStop>
         requires none { Self.keys self.old ≡ no_keys }
         ensures ok { IfOk result (λ size. (size ≤ length bytes.now)
             × saved (take size bytes.now) (Self.keys self.new)) }

@@ -169,11 +169,7 @@ fn judge_unit(place: Place, run: u64, from: u64, to: u64) -> Applied
 }
 
 // Reads the file of a frame, or replays its effects, and gives its run.
-fn take<R: FrontReplayer>(
-    alloc: Global,
-    replayer: &mut R,
-    frame: &Frame,
-) -> Result<u64, ReplayStop>
+fn take<R: FrontReplayer>(alloc: Global, replayer: &mut R, frame: &Frame) -> Result<u64, ReplayStop>
     requires none { IsFull frame.now → R.keys replayer.old ≡ no_keys }
     requires loggable { IsLoggableFrame frame.now }
     ensures run { IfOk result (λ run. run ≡ run_of frame.now) }

@@ -121,13 +121,7 @@ fn append_full(out: &mut Blob, run: u64, number: u64, file: &[u8]) -> Result<(),
     append_word(out, file)
 }
 
-fn append_unit(
-    out: &mut Blob,
-    run: u64,
-    from: u64,
-    to: u64,
-    text: &[u8],
-) -> Result<(), NoMemory>
+fn append_unit(out: &mut Blob, run: u64, from: u64, to: u64, text: &[u8]) -> Result<(), NoMemory>
     ensures ok { OnOk result (out.new ≡ out.old
         ++ multibulk (unit_word ∷ decimal run ∷ decimal from ∷ decimal to ∷ text.now ∷ [])) }
     ensures err { OnErr result (take (length out.old) out.new ≡ out.old) }
