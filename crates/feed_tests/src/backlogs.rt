@@ -54,7 +54,10 @@ const ROWS: [(u64, &[u8]); 8] = [
         b"*5\r\n$4\r\nUNIT\r\n$1\r\n9\r\n$1\r\n4\r\n$1\r\n7\r\n$27\r\n\
         *3\r\n$3\r\nSET\r\n$1\r\nb\r\n$1\r\n1\r\n\r\n",
     ),
-    (7, b"*5\r\n$4\r\nUNIT\r\n$1\r\n9\r\n$1\r\n7\r\n$1\r\n8\r\n$0\r\n\r\n"),
+    (
+        7,
+        b"*5\r\n$4\r\nUNIT\r\n$1\r\n9\r\n$1\r\n7\r\n$1\r\n8\r\n$0\r\n\r\n",
+    ),
     (8, b"caught"),
     (9, b"caught"),
 ];
