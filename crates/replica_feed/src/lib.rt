@@ -7,9 +7,9 @@
 //! as many events as its number says, by the laws of `laws.rt`. Stands on `core_types`, `byte_text`
 //! for decimals, `resp_codec` and `effect_log`.
 //!
-//! Writing is linear in the text. `push` and `since` copy one unit's effects; `since` finds its unit
-//! in O(log n), and `push` adds one in amortized O(1). `apply` costs what its effects or its file
-//! cost to replay.
+//! Writing is linear in the text. `push` and `since` copy one unit's effects; `since` finds its
+//! unit in O(log n), and `push` adds one in amortized O(1). `apply` costs what its effects or its
+//! file cost to replay.
 #![tactic(auto)]
 
 mod backlog;
