@@ -1,0 +1,5 @@
+pub mod Frames
+pub mod Words
+pub mod Units
+pub mod Runs
+pub mod Applying
