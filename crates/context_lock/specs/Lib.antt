@@ -2,4 +2,5 @@ pub mod Pairs
 pub mod Histories
 pub mod Passes
 pub mod Locks
+pub mod Lending
 pub mod inner

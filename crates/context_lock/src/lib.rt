@@ -3,6 +3,7 @@
 
 mod historic;
 mod inside;
+mod lends;
 mod lock;
 mod pass;
 mod turns;
