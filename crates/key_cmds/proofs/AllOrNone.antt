@@ -22,7 +22,9 @@ other_way : (a b : List ℕ) → bytes_eq a b ≡ false → bytes_eq b a ≡ fal
 other_way a b differs = by (bytes_eq b a) refl
   where
     by : (t : Bool) → bytes_eq b a ≡ t → t ≡ false
-    by true same = absurd (false≢true (sym differs ∙ (bytes_decides a b).1 (sym ((bytes_decides b a).0 same))))
+    by true same =
+        let equal : a ≡ b = sym ((bytes_decides b a).0 same) in
+        absurd (false≢true (sym differs ∙ (bytes_decides a b).1 equal))
     by false same = refl
 
 module _ {N : Type 0} where
@@ -84,9 +86,11 @@ module _ {N : Type 0} where
   swapped keys a b x y differs =
       same_keys (with_entry (with_entry keys a x) b y) (with_entry (with_entry keys b y) a x)
       (λ key. entry_at-with_entry (with_entry keys a x) b y key
-      ∙ ap (λ (o : Option (Entry N)). if bytes_eq key b then Some y else o) (entry_at-with_entry keys a x key)
+      ∙ ap (λ (o : Option (Entry N)). if bytes_eq key b then Some y else o)
+      (entry_at-with_entry keys a x key)
       ∙ by key (bytes_eq key a) (bytes_eq key b) refl refl
-      ∙ ap (λ (o : Option (Entry N)). if bytes_eq key a then Some x else o) (sym (entry_at-with_entry keys b y key))
+      ∙ ap (λ (o : Option (Entry N)). if bytes_eq key a then Some x else o)
+      (sym (entry_at-with_entry keys b y key))
       ∙ sym (entry_at-with_entry (with_entry keys b y) a x key))
     where
       by : (key : List ℕ) (s t : Bool) → bytes_eq key a ≡ s → bytes_eq key b ≡ t
@@ -109,7 +113,8 @@ module _ {N : Type 0} where
       ap (with_pairs more)
       (swapped keys key pair.key (record { value = value.Str text; deadline = None })
       (record { value = value.Str pair.value; deadline = None }) differs)
-      ∙ later_set more (with_pair keys pair) key text (all_there more keys pair.key pair.value there.1)
+      ∙ later_set more (with_pair keys pair) key text
+      (all_there more keys pair.key pair.value there.1)
       (elsewhere keys pair.key pair.value key differs ∙ absent)
 
   later_left : (pairs : List Pair) (keys : KeysOf N) (key text : List ℕ) → AreThere pairs keys
@@ -119,10 +124,11 @@ module _ {N : Type 0} where
   later_left (pair ∷ more) keys key text there absent =
       let differs = apart keys pair.key key there.0 absent in
       let swap = swapped keys key pair.key (record { value = value.Str text; deadline = None })
-          (record { value = value.Str pair.value; deadline = None }) differs in
+      (record { value = value.Str pair.value; deadline = None }) differs in
       let rest = ap (left_by_pairs more) swap
-          ∙ later_left more (with_pair keys pair) key text (all_there more keys pair.key pair.value there.1)
-          (elsewhere keys pair.key pair.value key differs ∙ absent) in
+      ∙ later_left more (with_pair keys pair) key text
+      (all_there more keys pair.key pair.value there.1)
+      (elsewhere keys pair.key pair.value key differs ∙ absent) in
       let first = elsewhere keys key text pair.key (other_way key pair.key differs) in
       (λ i. native_in (first i) ++ rest i)
 
@@ -143,13 +149,15 @@ module _ {N : Type 0} where
       subst (λ o. length (native_in o) ≤ length (native_in (value_at keys other)))
       (sym (text_there keys key text other)) (by (bytes_eq other key))
     where
-      by : (b : Bool) → length (native_in (if b then Some (value.Str text) else value_at keys other))
+      by : (b : Bool) → length
+          (native_in (if b then Some (value.Str text) else value_at keys other))
           ≤ length (native_in (value_at keys other))
       by true = omega arith
       by false = omega arith
 
   natives_counted : (pairs : List Pair) (keys : KeysOf N) (key : List ℕ)
-      → length (native_in (value_at (with_pairs pairs keys) key)) ≤ length (native_in (value_at keys key))
+      → length (native_in (value_at (with_pairs pairs keys) key))
+      ≤ length (native_in (value_at keys key))
   natives_counted [] keys key = omega arith
   natives_counted (pair ∷ more) keys key =
       let rest = natives_counted more (with_pair keys pair) key in
@@ -161,14 +169,17 @@ module _ {N : Type 0} where
   pub put_more : (put : List (List ℕ)) (before mid : KeysOf N) (key text : List ℕ)
       → ArePut put before mid → value_at mid key ≡ None
       → ArePut (put ++ key ∷ []) before (with_value mid key (value.Str text))
-  put_more [] before mid key text are absent =
-      (ap (λ keys. value_at keys key) (sym are) ∙ absent,
-      (text, ap (λ keys. with_value keys key (value.Str text)) are))
+  put_more [] before mid key text are absent = (
+    ap (λ keys. value_at keys key) (sym are) ∙ absent,
+    (text, ap (λ keys. with_value keys key (value.Str text)) are),
+  )
   put_more (first ∷ put) before mid key text are absent =
-      (are.0, (are.1.0, put_more put (with_value before first (value.Str are.1.0)) mid key text are.1.1 absent))
+      let next = with_value before first (value.Str are.1.0) in
+      (are.0, (are.1.0, put_more put next mid key text are.1.1 absent))
 
 -- the last key was put when the others were
-pub record IsLastPut {N : Type 0} (put : List (List ℕ)) (key : List ℕ) (before now : KeysOf N) : Type 0 where
+pub record IsLastPut {N : Type 0} (put : List (List ℕ)) (key : List ℕ)
+    (before now : KeysOf N) : Type 0 where
   pub mid : KeysOf N
   pub text : List ℕ
   pub are : ArePut put before mid
@@ -202,8 +213,9 @@ module _ {N : Type 0} where
   taken_back put key before now are =
       let h = last_put put key before now are in
       let entry : Entry N = record { value = value.Str h.text; deadline = None } in
-      subst (ArePut put before)
-      (sym (ap (λ keys. without keys key) h.last ∙ without_entry h.mid key entry ∙ without_absent h.mid key h.absent)) h.are
+      let back = ap (λ keys. without keys key) h.last ∙ without_entry h.mid key entry
+      ∙ without_absent h.mid key h.absent in
+      subst (ArePut put before) (sym back) h.are
 
   -- it has a string
   pub string_put : (put : List (List ℕ)) (key : List ℕ) (before now : KeysOf N)
@@ -212,22 +224,27 @@ module _ {N : Type 0} where
       let h = last_put put key before now are in
       ap (λ keys. native_in (value_at keys key)) h.last
       ∙ ap native_in (text_there h.mid key h.text key
-      ∙ ap (λ (b : Bool). if b then Some (value.Str h.text) else value_at h.mid key) ((bytes_decides key key).1 refl))
+      ∙ ap (λ (b : Bool). if b then Some (value.Str h.text) else value_at h.mid key)
+      ((bytes_decides key key).1 refl))
 
 module _ {N : Type 0} where
-  pub place_taken : (places all : List (Bor (List ℕ))) (place : Bor (List ℕ)) (before now : KeysOf N)
+  pub place_taken : (places all : List (Bor (List ℕ))) (place : Bor (List ℕ))
+      (before now : KeysOf N)
       → all ≡ places ++ place ∷ [] → ArePut (map (λ key. key.now) all) before now
       → ArePut (map (λ key. key.now) places) before (without now place.now)
   place_taken places all place before now last are =
       taken_back (map (λ key. key.now) places) place.now before now
-      (subst (λ put. ArePut put before now) (ap (map (λ key. key.now)) last ∙ last_place places place) are)
+      (subst (λ put. ArePut put before now)
+      (ap (map (λ key. key.now)) last ∙ last_place places place) are)
 
-  pub place_string : (places all : List (Bor (List ℕ))) (place : Bor (List ℕ)) (before now : KeysOf N)
+  pub place_string : (places all : List (Bor (List ℕ))) (place : Bor (List ℕ))
+      (before now : KeysOf N)
       → all ≡ places ++ place ∷ [] → ArePut (map (λ key. key.now) all) before now
       → native_in (value_at now place.now) ≡ []
   place_string places all place before now last are =
       string_put (map (λ key. key.now) places) place.now before now
-      (subst (λ put. ArePut put before now) (ap (map (λ key. key.now)) last ∙ last_place places place) are)
+      (subst (λ put. ArePut put before now)
+      (ap (map (λ key. key.now)) last ∙ last_place places place) are)
 
 -- pairs have been looked at, and this stands
 pub record AreLookedAt {N : Type 0} (pairs : List Pair) (gathered : Begun)
@@ -261,13 +278,15 @@ module _ {N : Type 0} where
 
   absent_looked_at : (pairs : List Pair) (pair : Pair) (begun : Begun) (before now : KeysOf N)
       → AreLookedAt pairs begun before now → value_at now pair.key ≡ None
-      → AreLookedAt (pairs ++ pair ∷ []) (record begun { put = begun.put ++ pair.key ∷ [] }) before (with_pair now pair)
+      → AreLookedAt (pairs ++ pair ∷ []) (record begun { put = begun.put ++ pair.key ∷ [] }) before
+      (with_pair now pair)
   absent_looked_at pairs pair begun before now h absent =
       let key = pair.key in
       let there = h.begun.there in
       let same = later_left begun.settings now key pair.value there absent in
       let none : value_at (with_pairs pairs before) key ≡ None =
-          ap (λ keys. value_at keys key) (sym h.begun.sets) ∙ still_absent begun.settings now key there absent in
+      ap (λ keys. value_at keys key) (sym h.begun.sets)
+      ∙ still_absent begun.settings now key there absent in
       record {
         put = put_more begun.put before now key pair.value h.put absent;
         begun =
@@ -275,7 +294,8 @@ module _ {N : Type 0} where
               there = all_there begun.settings now key pair.value there;
               sets =
                   later_set begun.settings now key pair.value there absent
-                  ∙ ap (λ keys. with_pair keys pair) h.begun.sets ∙ sym (set_more pairs (pair ∷ []) before);
+                  ∙ ap (λ keys. with_pair keys pair) h.begun.sets
+                  ∙ sym (set_more pairs (pair ∷ []) before);
               leaves =
                   same ∙ h.begun.leaves ∙ sym (append-nil (left_by_pairs pairs before))
                   ∙ ap (λ o. left_by_pairs pairs before ++ (native_in o ++ [])) (sym none)
@@ -284,32 +304,38 @@ module _ {N : Type 0} where
         few = subst (λ left. length left ≤ begun.natives) (sym same) h.few;
       }
 
-  there_looked_at : (pairs : List Pair) (pair : Pair) (held : Value N) (begun : Begun) (before now : KeysOf N)
+  there_looked_at : (pairs : List Pair) (pair : Pair) (held : Value N) (begun : Begun)
+      (before now : KeysOf N)
       → AreLookedAt pairs begun before now → value_at now pair.key ≡ Some held
       → AreLookedAt (pairs ++ pair ∷ []) (looked_at pair (Some held) begun) before now
   there_looked_at pairs pair held begun before now h is =
       let first = left_by_pairs begun.settings now in
       let had = native_in (value_at (with_pairs begun.settings now) pair.key) in
       let both : left_by_pairs (begun.settings ++ pair ∷ []) now ≡ first ++ (had ++ []) =
-          left_more begun.settings (pair ∷ []) now in
+      left_more begun.settings (pair ∷ []) now in
       let counted : length had ≤ length (native_in (Some held)) =
-          subst (λ o. length had ≤ length (native_in o)) is (natives_counted begun.settings now pair.key) in
+      subst (λ o. length had ≤ length (native_in o)) is
+      (natives_counted begun.settings now pair.key) in
       let whole = ap length (append-nil had) in
-      let few : length (left_by_pairs (begun.settings ++ pair ∷ []) now) ≤ begun.natives + length (native_in (Some held)) =
-          omega (arith, ap length both, length-append first (had ++ []), whole, counted, h.few) in
+      let few : length (left_by_pairs (begun.settings ++ pair ∷ []) now)
+      ≤ begun.natives + length (native_in (Some held)) =
+      omega (arith, ap length both, length-append first (had ++ []), whole, counted, h.few) in
       record {
         put = h.put;
         begun =
             record {
               there =
-                  all_by_recursion_push (λ p. IsSome (value_at now p.key)) begun.settings pair h.begun.there
+                  all_by_recursion_push (λ p. IsSome (value_at now p.key)) begun.settings pair
+                  h.begun.there
                   (subst IsSome (sym is) refl);
               sets =
-                  set_more begun.settings (pair ∷ []) now ∙ ap (λ keys. with_pair keys pair) h.begun.sets
+                  set_more begun.settings (pair ∷ []) now
+                  ∙ ap (λ keys. with_pair keys pair) h.begun.sets
                   ∙ sym (set_more pairs (pair ∷ []) before);
               leaves =
                   both
-                  ∙ (λ i. h.begun.leaves i ++ (native_in (value_at (h.begun.sets i) pair.key) ++ []))
+                  ∙ (λ i. h.begun.leaves i ++
+                  (native_in (value_at (h.begun.sets i) pair.key) ++ []))
                   ∙ sym (left_more pairs (pair ∷ []) before);
             };
         few = few;
@@ -322,7 +348,8 @@ module _ {N : Type 0} where
   next_looked_at pairs pair begun before now h = by (value_at now pair.key) refl
     where
       by : (found : Option (Value N)) → value_at now pair.key ≡ found
-          → AreLookedAt (pairs ++ pair ∷ []) (looked_at pair found begun) before (keys_looked_at pair found now)
+          → AreLookedAt (pairs ++ pair ∷ []) (looked_at pair found begun) before
+          (keys_looked_at pair found now)
       by None is = absent_looked_at pairs pair begun before now h is
       by (Some held) is = there_looked_at pairs pair held begun before now h is
 
@@ -333,16 +360,18 @@ pub record IsLookedAt {N : Type 0} (pair : Pair) (begun after : Begun)
   pub puts : now ≡ keys_looked_at pair (value_at keys pair.key) keys
 
 module _ {N : Type 0} where
-  pub one_looked_at : (pair : Pair) (rest all pairs : List Pair) (begun after : Begun) (before keys now : KeysOf N)
-      → all ≡ pair ∷ rest → AreLookedAtBut all pairs begun before keys → IsLookedAt pair begun after keys now
-      → AreLookedAtBut rest pairs after before now
-  one_looked_at pair rest all pairs begun after before keys now taken h step =
+  pub one_looked_at : (pair : Pair) (rest pairs : List Pair) (begun after : Begun)
+      (before keys now : KeysOf N) → AreLookedAtBut (pair ∷ rest) pairs begun before keys
+      → IsLookedAt pair begun after keys now → AreLookedAtBut rest pairs after before now
+  one_looked_at pair rest pairs begun after before keys now h step =
+      let done = h.done ++ pair ∷ [] in
+      let next = looked_at pair (value_at keys pair.key) begun in
       record {
-        done = h.done ++ pair ∷ [];
-        whole = append_assoc h.done (pair ∷ []) rest ∙ ap (λ more. h.done ++ more) (sym taken) ∙ h.whole;
+        done = done;
+        whole = append_assoc h.done (pair ∷ []) rest ∙ h.whole;
         are =
-            subst (λ (b : Begun). AreLookedAt (h.done ++ pair ∷ []) b before now) (sym step.gathers)
-            (subst (AreLookedAt (h.done ++ pair ∷ []) (looked_at pair (value_at keys pair.key) begun) before) (sym step.puts)
+            subst (λ (b : Begun). AreLookedAt done b before now) (sym step.gathers)
+            (subst (AreLookedAt done next before) (sym step.puts)
             (next_looked_at h.done pair begun before keys h.are));
       }
 
@@ -355,17 +384,22 @@ module _ {N : Type 0} where
 -- ---- the second pass
 
 -- all pairs but these, which come last, are set, and the keys of these are there
-pub record AreSetBut {N : Type 0} (rest pairs : List Pair) (before now : KeysAndLeft N) : Type 0 where
+pub record AreSetBut {N : Type 0} (rest pairs : List Pair)
+    (before now : KeysAndLeft N) : Type 0 where
   pub keys : with_pairs rest now.keys ≡ with_pairs pairs before.keys
-  pub left : now.left ++ left_by_pairs rest now.keys ≡ before.left ++ left_by_pairs pairs before.keys
+  pub left : now.left ++ left_by_pairs rest now.keys
+      ≡ before.left ++ left_by_pairs pairs before.keys
   pub there : AreThere rest now.keys
 
 module _ {N : Type 0} where
-  pub none_set : (pairs : List Pair) (kept : KeysAndLeft N) → AreThere pairs kept.keys → AreSetBut pairs pairs kept kept
+  pub none_set : (pairs : List Pair) (kept : KeysAndLeft N) → AreThere pairs kept.keys
+      → AreSetBut pairs pairs kept kept
   none_set pairs kept there = record { keys = refl; left = refl; there = there }
 
-  pub one_set : (pair : Pair) (rest pairs : List Pair) (before now after : KeysAndLeft N) → AreSetBut (pair ∷ rest) pairs before now
-      → after.keys ≡ with_pair now.keys pair → after.left ≡ now.left ++ native_in (value_at now.keys pair.key)
+  pub one_set : (pair : Pair) (rest pairs : List Pair) (before now after : KeysAndLeft N)
+      → AreSetBut (pair ∷ rest) pairs before now
+      → after.keys ≡ with_pair now.keys pair
+      → after.left ≡ now.left ++ native_in (value_at now.keys pair.key)
       → AreSetBut rest pairs before after
   one_set pair rest pairs before now after h keys left =
       let had = native_in (value_at now.keys pair.key) in
@@ -375,5 +409,6 @@ module _ {N : Type 0} where
             (λ i. left i ++ left_by_pairs rest (keys i))
             ∙ append_assoc now.left had (left_by_pairs rest (with_pair now.keys pair)) ∙ h.left;
         there =
-            subst (AreThere rest) (sym keys) (all_there rest now.keys pair.key pair.value h.there.1);
+            subst (AreThere rest) (sym keys)
+            (all_there rest now.keys pair.key pair.value h.there.1);
       }

@@ -5,9 +5,13 @@ ghost use Rattle.std.specs.Option.{option_copied};
 ghost use Rattle.key_events.specs.Subscribers.{nobody, subscribed, unsubscribed, dropped};
 ghost use Rattle.key_events.specs.Subscribers.{has_class, is_subscribed, count_of, oldest, names_of};
 ghost use Rattle.key_events.specs.Outcomes.{SubscribeCause};
+ghost use Rattle.key_events.specs.Messages.{messages};
 
 use crate::ChannelFault;
+use crate::message::{keyevent_channel, keyspace_channel};
 use crate::rolls::Rolls;
+use crate::telling::tell;
+use core_types::{Note, Outs};
 use sequences::{Args, Blob, NoMemory};
 use std::alloc::Global;
 use std::marker::Model;
@@ -121,6 +125,24 @@ impl Channels {
         ensures dropped { self.new ≡ dropped self.old client }
     {
         self.rolls.drop_client(client);
+    }
+
+    /// What subscribers are told of an event of a key, in order: the event's name on the channel of
+    /// the key, then the key on the channel of the event. On each channel first those who have it
+    /// are told, then those whose patterns match it, once for each pattern; both by rising number
+    /// of the client, and the patterns of one client the oldest first. Looks at each pattern once,
+    /// however many have it, and else at those alone who are told.
+    pub fn messages(&self, note: &Note) -> Result<Outs, NoMemory>
+        ensures messages { IfOk result (λ outs. outs ≡ messages self.now note.now) }
+    {
+        let space = keyspace_channel(self.alloc, note.key.as_slice())?;
+        let event = keyevent_channel(self.alloc, note.name.as_slice())?;
+        let mut outs = Outs::new(self.alloc);
+        let name = note.name.as_slice();
+        let key = note.key.as_slice();
+        tell(&mut outs, self.alloc, &self.rolls, space.as_slice(), name)?;
+        tell(&mut outs, self.alloc, &self.rolls, event.as_slice(), key)?;
+        Ok(outs)
     }
 
     // Whether a client has a channel, or a pattern.

@@ -6,11 +6,13 @@ mod channels;
 mod line;
 mod lines;
 mod matching;
+mod message;
 mod names;
 mod piece;
 mod roll;
 mod rolls;
 mod table;
+mod telling;
 mod walk;
 
 pub use channel_fault::ChannelFault;

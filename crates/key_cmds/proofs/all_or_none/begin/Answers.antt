@@ -11,7 +11,8 @@ take_out-requires g c =
           record {
             before = before;
             are =
-                subst (λ put. ArePut put before c.prepare.new.keys) (ap (λ (b : Begun). b.put) (sym c.begun.view_is))
+                subst (λ put. ArePut put before c.prepare.new.keys)
+                (ap (λ (b : Begun). b.put) (sym c.begun.view_is))
                 c.prepare.ensures.put;
           };
     }
