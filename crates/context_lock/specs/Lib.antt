@@ -2,5 +2,4 @@ pub mod Pairs
 pub mod Histories
 pub mod Passes
 pub mod Locks
-pub mod Lending
 pub mod inner

@@ -3,7 +3,6 @@
 
 mod historic;
 mod inside;
-mod lends;
 mod lock;
 mod pass;
 mod turns;

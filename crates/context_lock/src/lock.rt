@@ -40,11 +40,11 @@ impl<S: Historic> ContextLock<S> {
     pub fn new(alloc: Global, state: S) -> Result<(ContextLock<S>, Pass), S>
         ensures opened { IfOk result (λ made. opened made.0 ≡ end (S.history state)) }
         ensures pass { IfOk result (λ made. made.1 ≡ record {
-            lock = lock_id made.0;
-            seen = end (S.history state);
-            parts = 1048576;
-            mine = [];
-            stays = [];
+          lock = lock_id made.0;
+          seen = end (S.history state);
+          parts = 1048576;
+          mine = [];
+          stays = [];
         }) }
         ensures back { IfErr result (λ back. back ≡ state) }
     {
