@@ -44,8 +44,12 @@ module _ (before after : History) (on : GoesOn before after) where
   kept_length =
       let c = on.cut in let r = on.reached in
       let l = ap length on.keeps in
-      omega (arith, l, length-take (end before - after.first) after.events,
-          length-drop (after.first - before.first) before.events)
+      omega (
+        arith,
+        l,
+        length-take (end before - after.first) after.events,
+        length-drop (after.first - before.first) before.events,
+      )
 
   pub end_later : end before ≤ end after
   end_later = let r = on.reached in omega (arith, kept_length)
@@ -60,9 +64,9 @@ module _ (before after : History) (on : GoesOn before after) where
       let c = on.cut in let r = on.reached in
       let was = stood (omega arith) in
       let inside : p.number - before.first < length before.events
-            = slice_get_within before.events (p.number - before.first) p.event was in
+      = slice_get_within before.events (p.number - before.first) p.event was in
       let place : (after.first - before.first) + (p.number - after.first) ≡ p.number - before.first
-            = omega arith in
+      = omega arith in
       sym (get-take (end before - after.first) (p.number - after.first) after.events (omega arith))
       ∙ (ap (λ l. slice_get l (p.number - after.first)) on.keeps
       ∙ (get-drop (after.first - before.first) (p.number - after.first) before.events
@@ -72,9 +76,10 @@ stand_from : (h : History) (k number : ℕ) (es : List Event) → drop k h.event
     → number ≡ h.first + k → AllByRecursion (Stands h) (numbered number es)
 stand_from h k number [] e at = tt
 stand_from h k number (x ∷ xs) e at =
-    let place : number - h.first ≡ k = omega arith in
-    ((λ late. ap (slice_get h.events) place ∙ rest_head k h.events x xs e),
-    stand_from h (k + 1) (number + 1) xs (rest_rest k h.events x xs e) (omega arith))
+    let place : number - h.first ≡ k = omega arith in (
+      (λ late. ap (slice_get h.events) place ∙ rest_head k h.events x xs e),
+      stand_from h (k + 1) (number + 1) xs (rest_rest k h.events x xs e) (omega arith),
+    )
 
 pub added_stand : (before after : History) → GoesOn before after
     → AllByRecursion (Stands after) (numbered (end before) (added before after))

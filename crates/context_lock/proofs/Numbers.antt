@@ -70,17 +70,17 @@ pub rising_placed : (p : Pair) (ps : List Pair) → Rising ps → times p.number
 rising_placed p [] r none = (tt, tt)
 rising_placed p (o ∷ os) r none = dite (dec_lt p.number o.number)
     (λ less. let later : AllByRecursion (λ q. p.number < q.number) os
-          = all_as (λ q. o.number < q.number) (λ q. p.number < q.number) (λ q l. omega arith) os r.0 in
-        subst (λ b. Rising (cond b (p ∷ o ∷ os) (o ∷ placed p os))) (sym (lt-ltb p.number o.number less))
-        ((less, later), r))
+    = all_as (λ q. o.number < q.number) (λ q. p.number < q.number) (λ q l. omega arith) os r.0 in
+    subst (λ b. Rising (cond b (p ∷ o ∷ os) (o ∷ placed p os))) (sym (lt-ltb p.number o.number less))
+    ((less, later), r))
     (λ more. let le : o.number ≤ p.number = omega arith in
-        dite (ℕ_discrete o.number p.number)
-        (λ same. let one : hit p.number o ≡ 1 = ap (λ b. cond b 1 0) (eq-eqb o.number p.number same) in
-            absurd (omega arith))
-        (λ other. let lt : o.number < p.number = omega arith in
-            subst (λ b. Rising (cond b (p ∷ o ∷ os) (o ∷ placed p os)))
-            (sym (le-ltb p.number o.number le))
-            (all_placed (λ q. o.number < q.number) p os lt r.0, rising_placed p os r.1 (omega arith))))
+    dite (ℕ_discrete o.number p.number)
+    (λ same. let one : hit p.number o ≡ 1 = ap (λ b. cond b 1 0) (eq-eqb o.number p.number same) in
+    absurd (omega arith))
+    (λ other. let lt : o.number < p.number = omega arith in
+    subst (λ b. Rising (cond b (p ∷ o ∷ os) (o ∷ placed p os)))
+    (sym (le-ltb p.number o.number le))
+    (all_placed (λ q. o.number < q.number) p os lt r.0, rising_placed p os r.1 (omega arith))))
 
 -- no number stands in both
 pub rising_merged : (ps os : List Pair) → Rising ps → Rising os
@@ -116,9 +116,11 @@ numbered_below a b (e ∷ es) le = (omega arith, numbered_below a (b + 1) es (om
 
 pub rising_numbered : (b : ℕ) (es : List Event) → Rising (numbered b es)
 rising_numbered b [] = tt
-rising_numbered b (e ∷ es) =
-    (all_as (λ p. b + 1 ≤ p.number) (λ p. b < p.number) (λ p l. omega arith) (numbered (b + 1) es)
-    (numbered_from (b + 1) (b + 1) es (omega arith)), rising_numbered (b + 1) es)
+rising_numbered b (e ∷ es) = (
+  all_as (λ p. b + 1 ≤ p.number) (λ p. b < p.number) (λ p l. omega arith) (numbered (b + 1) es)
+      (numbered_from (b + 1) (b + 1) es (omega arith)),
+  rising_numbered (b + 1) es,
+)
 
 -- ---- numbers from one on and below another
 pub within_yes : (a b n : ℕ) → a ≤ n → n < b → once_within a b n ≡ 1
@@ -146,13 +148,25 @@ within_joined a b c n le₁ le₂ =
     dite (dec_lt n a)
     (λ y. omega (arith, within_early a b n y, within_early a c n y, within_early b c n (omega arith)))
     (λ y. dite (dec_lt n b)
-    (λ z. omega (arith, within_yes a b n (omega arith) z, within_early b c n z,
-        within_yes a c n (omega arith) (omega arith)))
+    (λ z. omega (
+      arith,
+      within_yes a b n (omega arith) z,
+      within_early b c n z,
+      within_yes a c n (omega arith) (omega arith),
+    ))
     (λ z. dite (dec_lt n c)
-    (λ w. omega (arith, within_late a b n (omega arith), within_yes b c n (omega arith) w,
-        within_yes a c n (omega arith) w))
-    (λ w. omega (arith, within_late a b n (omega arith), within_late b c n (omega arith),
-        within_late a c n (omega arith)))))
+    (λ w. omega (
+      arith,
+      within_late a b n (omega arith),
+      within_yes b c n (omega arith) w,
+      within_yes a c n (omega arith) w,
+    ))
+    (λ w. omega (
+      arith,
+      within_late a b n (omega arith),
+      within_late b c n (omega arith),
+      within_late a c n (omega arith),
+    ))))
 
 pub within_none : (a n : ℕ) → once_within a a n ≡ 0
 within_none a n =
@@ -167,12 +181,12 @@ times-numbered n b (e ∷ es) =
     let rest = times-numbered n (b + 1) es in
     let far : (b + 1) + length es ≡ b + suc (length es) = omega arith in
     let rest' : times n (numbered (b + 1) es) ≡ once_within (b + 1) (b + suc (length es)) n
-          = rest ∙ ap (λ k. once_within (b + 1) k n) far in
+    = rest ∙ ap (λ k. once_within (b + 1) k n) far in
     let seam = within_joined b (b + 1) (b + suc (length es)) n (omega arith) (omega arith) in
     dite (ℕ_discrete b n)
     (λ same. let one : hit n (record { number = b; event = e }) ≡ 1 = ap (λ x. cond x 1 0) (eq-eqb b n same) in
-        omega (arith, rest', seam, one, within_yes b (b + 1) n (omega arith) (omega arith)))
+    omega (arith, rest', seam, one, within_yes b (b + 1) n (omega arith) (omega arith)))
     (λ other. let no : hit n (record { number = b; event = e }) ≡ 0 = ap (λ x. cond x 1 0) (ne_eqb b n other) in
-        dite (dec_lt n b)
-        (λ y. omega (arith, rest', seam, no, within_early b (b + 1) n y))
-        (λ y. omega (arith, rest', seam, no, within_late b (b + 1) n (omega arith))))
+    dite (dec_lt n b)
+    (λ y. omega (arith, rest', seam, no, within_early b (b + 1) n y))
+    (λ y. omega (arith, rest', seam, no, within_late b (b + 1) n (omega arith))))

@@ -82,8 +82,13 @@ module _ {S : Type 0} (history_of : S → History) where
           parts = omega arith;
           since = omega arith;
           once = λ n.
-              omega (arith, total-set (λ u. times n u.mine) s.views j v w me, k.once n, more n,
-                  within_joined opened (end k.history) (end h) n since later);
+              omega (
+                arith,
+                total-set (λ u. times n u.mine) s.views j v w me,
+                k.once n,
+                more n,
+                within_joined opened (end k.history) (end h) n since later,
+              );
           knows = knows_set s.views j w h others mine;
         }
 
@@ -104,35 +109,35 @@ module _ {S : Type 0} (history_of : S → History) where
 
     pub begins : (shows : S → Shown) (n id : ℕ) (v : View) → 0 < v.parts
         → Allows Holds n id (v, []) 0 (λ y. either (eqb y 0) 1 y)
-            (begun history_of shows (step n 0 0 1 none) (v, []))
+        (begun history_of shows (step n 0 0 1 none) (v, []))
     begins shows n id v part s k wide me _ =
         let found : get_or s.words 0 0 ≡ k.turn = ap (λ ws. get_or ws 0 0) k.words in
         let then = begun history_of shows (step n 0 0 1 none) (v, []) in
         exchanged (get_or s.words 0 0) 0 1 (Goes s 0 id (v, []) then)
         (λ hit.
-            let free : k.turn ≡ 0 = sym found ∙ hit in
-            let t = k.home free in
-            let w : View = entered history_of shows t.0 v in
-            let known : Knows k.history v = k.knows id v me in
-            let idle = term_le (λ (u : View). u.turn) s.views id v me in
-            let with_one = k.with_one in (
-              w,
-              takes 0 (Some t.0),
-              t.1,
-              changed s k id v w me (set s.words 0 1) (set s.homes 0 none) 1 k.history
-                  (ap (λ ws. set ws 0 1) k.words) (omega arith) (omega arith)
-                  (λ z. absurd (omega arith)) refl (omega arith)
-                  (λ m. omega (arith, within_none (end k.history) m)) (λ i u ne at. k.knows i u at)
-                  (record {
-                    seen = known.seen;
-                    rising = known.rising;
-                    below = known.below;
-                    stands = known.stands;
-                    spent = λ z. absurd (omega arith);
-                    inside = λ _. t.2;
-                  }),
-              ((λ _. (t.0, refl, subst (λ h. Knows h v) (sym t.2) known)), λ ne. absurd (ne hit)),
-            ))
+        let free : k.turn ≡ 0 = sym found ∙ hit in
+        let t = k.home free in
+        let w : View = entered history_of shows t.0 v in
+        let known : Knows k.history v = k.knows id v me in
+        let idle = term_le (λ (u : View). u.turn) s.views id v me in
+        let with_one = k.with_one in (
+          w,
+          takes 0 (Some t.0),
+          t.1,
+          changed s k id v w me (set s.words 0 1) (set s.homes 0 none) 1 k.history
+              (ap (λ ws. set ws 0 1) k.words) (omega arith) (omega arith)
+              (λ z. absurd (omega arith)) refl (omega arith)
+              (λ m. omega (arith, within_none (end k.history) m)) (λ i u ne at. k.knows i u at)
+              (record {
+                seen = known.seen;
+                rising = known.rising;
+                below = known.below;
+                stands = known.stands;
+                spent = λ z. absurd (omega arith);
+                inside = λ _. t.2;
+              }),
+          ((λ _. (t.0, refl, subst (λ h. Knows h v) (sym t.2) known)), λ ne. absurd (ne hit)),
+        ))
         (λ miss. (
           v,
           keeps,
@@ -195,7 +200,7 @@ module _ {S : Type 0} (history_of : S → History) where
     pub raises : (shows : S → Shown) (n id : ℕ) (v : View) (state : S) (new : ℕ)
         → new ≡ end (history_of state) → v.turn ≡ 1 → GoesOn v.history (history_of state)
         → Allows Holds n id (v, (0, Some state) ∷ []) 1 (λ _. new)
-            (λ _. raised history_of shows (step n 1 new 0 none) (v, (0, Some state) ∷ []) new)
+        (λ _. raised history_of shows (step n 1 new 0 none) (v, (0, Some state) ∷ []) new)
     raises shows n id v state new is has on s k wide me _ =
         let here = inside_is s k id v me has in
         let after : History = history_of state in
@@ -205,11 +210,10 @@ module _ {S : Type 0} (history_of : S → History) where
         let ends : end v.history ≡ end k.history = ap end here.1 in
         let far = end_added v.history after on in
         let fresh : (m : ℕ) → times m (numbered (end v.history) (added v.history after))
-            ≡ once_within (end k.history) (end after) m = λ m.
-            times-numbered m (end v.history) (added v.history after)
-            ∙ (ap (λ b. once_within (end v.history) b m) far
-            ∙ ap (λ a. once_within a (end after) m) ends) in
-        (
+        ≡ once_within (end k.history) (end after) m = λ m.
+        times-numbered m (end v.history) (added v.history after)
+        ∙ (ap (λ b. once_within (end v.history) b m) far
+        ∙ ap (λ a. once_within a (end after) m) ends) in (
           w,
           keeps,
           tt,
@@ -218,30 +222,32 @@ module _ {S : Type 0} (history_of : S → History) where
               ∙ (ap (λ a. a ∷ new ∷ []) here.0 ∙ ap (λ b. 1 ∷ b ∷ []) is)) (omega arith)
               (omega (arith, here.0)) (λ z. absurd (omega arith)) refl (omega arith)
               (λ m.
-                  omega (arith, fresh m,
-                      times-append m v.mine (numbered (end v.history) (added v.history after))))
+              omega (
+                arith,
+                fresh m,
+                times-append m v.mine (numbered (end v.history) (added v.history after)),
+              ))
               (λ i u ne at.
-                  let one = k.one in let with_one = k.with_one in
-                  let two = terms_le (λ (x : View). x.turn) s.views id i v u ne me at in
-                  knows_on v.history after on u (omega arith)
-                  (subst (λ h. Knows h u) (sym here.1) (k.knows i u at)))
+              let one = k.one in let with_one = k.with_one in
+              let two = terms_le (λ (x : View). x.turn) s.views id i v u ne me at in
+              knows_on v.history after on u (omega arith)
+              (subst (λ h. Knows h u) (sym here.1) (k.knows i u at)))
               (knows_gained shows state v has on known),
           λ other e.
               let same : state ≡ other = ap (held_or state) e in
               let to : S → Me (Option S) View
-                    = λ x. (gained history_of shows x v, (0, Some state) ∷ []) in
+              = λ x. (gained history_of shows x v, (0, Some state) ∷ []) in
               ap to same,
         )
 
     pub ends : (n id : ℕ) (v : View) (state : S) → v.turn ≡ 1 → v.history ≡ history_of state
         → n ≡ 1
         → Allows Holds n id (v, (0, Some state) ∷ []) 0 (λ _. 0)
-            (λ _. ended (step n 0 0 0 none) (v, (0, Some state) ∷ []) 0)
+        (λ _. ended (step n 0 0 0 none) (v, (0, Some state) ∷ []) 0)
     ends n id v state has was single s k wide me _ =
         let here = inside_is s k id v me has in
         let w : View = record v { turn = 0 } in
-        let known : Knows k.history v = k.knows id v me in
-        (
+        let known : Knows k.history v = k.knows id v me in (
           w,
           gives,
           tt,
@@ -264,20 +270,20 @@ module _ {S : Type 0} (history_of : S → History) where
     pub begins_at : (shows : S → Shown) (n id : ℕ) (m : Me (Option S) View) → m.1 ≡ []
         → 0 < m.0.parts
         → Allows Holds n id m 0 (λ y. either (eqb y 0) 1 y)
-            (begun history_of shows (step n 0 0 1 none) m)
+        (begun history_of shows (step n 0 0 1 none) m)
     begins_at shows n id m bare part =
         subst (λ (c : List (ℕ × Option S)). Allows Holds n id (m.0, c) 0 (λ y. either (eqb y 0) 1 y)
-            (begun history_of shows (step n 0 0 1 none) (m.0, c))) (sym bare)
+        (begun history_of shows (step n 0 0 1 none) (m.0, c))) (sym bare)
         (begins shows n id m.0 part)
 
     pub raises_at : (shows : S → Shown) (n id : ℕ) (m : Me (Option S) View) (v : View) (state : S)
         (new : ℕ) → m ≡ (v, (0, Some state) ∷ []) → new ≡ end (history_of state) → v.turn ≡ 1
         → GoesOn v.history (history_of state)
         → Allows Holds n id m 1 (λ _. new)
-            (λ _. raised history_of shows (step n 1 new 0 none) m new)
+        (λ _. raised history_of shows (step n 1 new 0 none) m new)
     raises_at shows n id m v state new e is has on =
         subst (λ (x : Me (Option S) View). Allows Holds n id x 1 (λ _. new)
-            (λ _. raised history_of shows (step n 1 new 0 none) x new)) (sym e)
+        (λ _. raised history_of shows (step n 1 new 0 none) x new)) (sym e)
         (raises shows n id v state new is has on)
 
     pub ends_at : (n id : ℕ) (m : Me (Option S) View) (v : View) (state : S)
@@ -285,7 +291,7 @@ module _ {S : Type 0} (history_of : S → History) where
         → Allows Holds n id m 0 (λ _. 0) (λ _. ended (step n 0 0 0 none) m 0)
     ends_at n id m v state e has was single =
         subst (λ (x : Me (Option S) View). Allows Holds n id x 0 (λ _. 0)
-            (λ _. ended (step n 0 0 0 none) x 0)) (sym e) (ends n id v state has was single)
+        (λ _. ended (step n 0 0 0 none) x 0)) (sym e) (ends n id v state has was single)
 
     pub splits : (id : ℕ) (v : View) → 2 ≤ v.parts → v.turn ≡ 0
         → Splits Holds id v (split_left v) (split_right v)
@@ -293,8 +299,8 @@ module _ {S : Type 0} (history_of : S → History) where
         let l : View = split_left v in let r : View = split_right v in
         let known : Knows k.history v = k.knows id v me in
         let sum : (g : View → ℕ) → total g (set s.views id l ++ r ∷ []) + g v ≡ total g s.views + g l + g r
-            = λ g. omega (arith, total-set g s.views id v l me, total-append g (set s.views id l) (r ∷ []))
-            in
+        = λ g. omega (arith, total-set g s.views id v l me, total-append g (set s.views id l) (r ∷ []))
+        in
         let with_one = k.with_one in let all = k.parts in
         record {
           turn = k.turn;
@@ -309,23 +315,23 @@ module _ {S : Type 0} (history_of : S → History) where
           knows = λ i u e.
               ⊎_elim
               (λ at. knows_set s.views id l k.history (λ j x ne. k.knows j x)
-                  (record {
-                    seen = known.seen;
-                    rising = known.rising;
-                    below = known.below;
-                    stands = known.stands;
-                    spent = λ z. absurd (omega arith);
-                    inside = known.inside;
-                  }) i u at)
+              (record {
+                seen = known.seen;
+                rising = known.rising;
+                below = known.below;
+                stands = known.stands;
+                spent = λ z. absurd (omega arith);
+                inside = known.inside;
+              }) i u at)
               (λ same. subst (Knows k.history) same
-                  (record {
-                    seen = known.seen;
-                    rising = tt;
-                    below = tt;
-                    stands = tt;
-                    spent = λ z. absurd (omega arith);
-                    inside = known.inside;
-                  }))
+              (record {
+                seen = known.seen;
+                rising = tt;
+                below = tt;
+                stands = tt;
+                spent = λ z. absurd (omega arith);
+                inside = known.inside;
+              }))
               (at_snoc (set s.views id l) r u i e);
         }
 
@@ -337,14 +343,18 @@ module _ {S : Type 0} (history_of : S → History) where
         let a : Knows k.history v = k.knows id v me in
         let b : Knows k.history u = k.knows other u there in
         let sum : (g : View → ℕ) → total g (set vs other spent) + g u + g v ≡ total g s.views + g w + g spent
-            = λ g. omega (arith, total-set g s.views id v w me, total-set g vs other u spent them) in
+        = λ g. omega (arith, total-set g s.views id v w me, total-set g vs other u spent them) in
         let with_one = k.with_one in let all = k.parts in
         let seen = a.seen in let seen' = b.seen in
         let far : Knows k.history w = record {
           seen = omega arith;
           rising = rising_merged v.mine u.mine a.rising b.rising
-              (λ n. omega (arith, k.once n, within_le opened (end k.history) n,
-                  terms_le (λ (x : View). times n x.mine) s.views id other v u apart me there));
+              (λ n. omega (
+                arith,
+                k.once n,
+                within_le opened (end k.history) n,
+                terms_le (λ (x : View). times n x.mine) s.views id other v u apart me there,
+              ));
           below = all_merged (λ p. p.number < max v.seen u.seen) v.mine u.mine
               (all_as (λ p. p.number < v.seen) (λ p. p.number < max v.seen u.seen) (λ p l. omega arith)
               v.mine a.below)
@@ -392,14 +402,14 @@ module _ {S : Type 0} (history_of : S → History) where
         knows = λ j v e.
             ⊎_elim (λ at. absurd (some-ne-none v (sym at)))
             (λ same. subst (Knows (history_of state)) same
-                (record {
-                  seen = omega arith;
-                  rising = tt;
-                  below = tt;
-                  stands = tt;
-                  spent = λ z. absurd (omega arith);
-                  inside = λ z. absurd (omega arith);
-                }))
+            (record {
+              seen = omega arith;
+              rising = tt;
+              below = tt;
+              stands = tt;
+              spent = λ z. absurd (omega arith);
+              inside = λ z. absurd (omega arith);
+            }))
             (at_snoc [] (rule.opening new) v j e);
       }
 
@@ -407,15 +417,15 @@ module _ {S : Type 0} (history_of : S → History) where
   pub closes : (opened id : ℕ) (v : View) (ws : List ℕ) (xs : List (Option S))
       → v.parts ≡ 1048576 → v.turn ≡ 0 → Final (Seen (Kept history_of opened) id v) ws xs
       → (state : S) × (get_elem? xs 0 ≡ some (Some state)) × Knows (history_of state) v
-          × ((n : ℕ) → times n v.mine ≡ once_within opened (end (history_of state)) n)
+      × ((n : ℕ) → times n v.mine ≡ once_within opened (end (history_of state)) n)
   closes opened id v ws xs all out f =
       let s = f.0 in let k = f.1.0 in let me = f.1.1 in
       let idle : (i : ℕ) (u : View) → i ≢ id → get_elem? s.views i ≡ some u
-          → (u.mine ≡ []) × (u.turn ≡ 0) = λ i u ne at.
-          let full = k.parts in
-          let none : u.parts ≡ 0
-                = omega (arith, terms_le (λ (x : View). x.parts) s.views id i v u ne me at) in
-          let known : Knows k.history u = k.knows i u at in known.spent none in
+      → (u.mine ≡ []) × (u.turn ≡ 0) = λ i u ne at.
+      let full = k.parts in
+      let none : u.parts ≡ 0
+      = omega (arith, terms_le (λ (x : View). x.parts) s.views id i v u ne me at) in
+      let known : Knows k.history u = k.knows i u at in known.spent none in
       let turn = total-only (λ (x : View). x.turn) s.views id v me (λ i u ne at. (idle i u ne at).1) in
       let with_one = k.with_one in
       let free : k.turn ≡ 0 = omega arith in

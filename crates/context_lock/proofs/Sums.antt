@@ -42,8 +42,14 @@ module _ {A : Type 0} (g : A → ℕ) where
       → ((i : ℕ) (u : A) → i ≢ j → get_elem? l i ≡ some u → g u ≡ 0) → total g l ≡ g v
   total-only [] j v e none = absurd (some-ne-none v (sym e))
   total-only (x ∷ xs) zero v e none =
-      omega (arith, ap g (some-injective x v e),
-          total-zero xs (λ i u at. none (suc i) u (λ h. omega arith) at))
+      omega (
+        arith,
+        ap g (some-injective x v e),
+        total-zero xs (λ i u at. none (suc i) u (λ h. omega arith) at),
+      )
   total-only (x ∷ xs) (suc j) v e none =
-      omega (arith, none 0 x (λ h. omega arith) refl,
-          total-only xs j v e (λ i u ne at. none (suc i) u (λ h. ne (omega arith)) at))
+      omega (
+        arith,
+        none 0 x (λ h. omega arith) refl,
+        total-only xs j v e (λ i u ne at. none (suc i) u (λ h. ne (omega arith)) at),
+      )

@@ -22,14 +22,14 @@ module _ {S : Type 0} where
 
   -- the pass that came in
   abbrev pub entered : Inside S → Held
-  entered inside = held_of inside.seat.table_id inside.seat.me.0
+  entered inside = held_of inside.turn.seat.table_id inside.turn.seat.me.0
 
   -- the history as it came in, and what the state showed then
   abbrev pub before : Inside S → History
-  before inside = inside.seat.me.0.history
+  before inside = inside.turn.seat.me.0.history
 
   abbrev pub came : Inside S → Shown
-  came inside = inside.seat.me.0.came.shown
+  came inside = inside.turn.seat.me.0.came.shown
 
   -- a pass came in: the history fits it, and so the state is seen
   pub record Comes (history : S → History) (shows : S → Shown) (who : Held)

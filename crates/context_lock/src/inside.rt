@@ -9,15 +9,20 @@ use crate::turns::{End, Raise};
 use crate::view::View;
 use atomic_table::Seat;
 
-/// The state of a lock, with the turn. It is given back by `leave`, and by nothing else.
-pub struct Inside<'a, S: Historic> {
+// The turn of a lock, whose slot is empty meanwhile.
+pub(crate) struct Turn<'a, S: Historic> {
     pub(crate) lock: &'a ContextLock<S>,
     pub(crate) seat: Seat<Option<S>, View>,
-    pub(crate) state: S,
     ghost seated: { seat.table_id ≡ lock.now.table.shared.table_id },
     ghost bare: { seat.me.1 ≡ (0, None) ∷ [] },
-    ghost inside: { seat.me.0.turn ≡ 1 },
-    ghost parted: { 0 < seat.me.0.parts },
+    ghost has: { seat.me.0.turn ≡ 1 },
+}
+
+/// The state of a lock, with the turn. It is given back by `leave`, and by nothing else.
+pub struct Inside<'a, S: Historic> {
+    pub(crate) turn: Turn<'a, S>,
+    pub(crate) state: S,
+    ghost parted: { 0 < turn.seat.me.0.parts },
 }
 
 impl<'a, S: Historic> Inside<'a, S> {
@@ -41,11 +46,8 @@ impl<'a, S: Historic> Inside<'a, S> {
         ensures left { result ≡ left (before self.entry) (S.history (state_of self.entry))
             (stay_of (came self.entry) (S.shows (state_of self.entry))) (entered self.entry) }
     {
-        let Inside {
-            lock,
-            mut seat,
-            state,
-        } = self;
+        let Inside { turn, state } = self;
+        let Turn { lock, mut seat } = turn;
         let shared = &lock.table.shared;
         let end = end_of(&state);
         match shared.exchange(&mut seat, 0, Some(state)) {

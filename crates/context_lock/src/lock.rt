@@ -3,7 +3,7 @@
 ghost use Rattle.std.specs.Prelude.{◌≡◌, ℕ, ◌-◌, ◌≤◌, [], ◌∷◌, Some, IfOk, IfErr};
 
 use crate::historic::{Historic, end_of};
-use crate::inside::Inside;
+use crate::inside::{Inside, Turn};
 use crate::pass::Pass;
 use crate::turns::{Begin, Cut, Glue, Turns};
 use crate::view::View;
@@ -40,11 +40,11 @@ impl<S: Historic> ContextLock<S> {
     pub fn new(alloc: Global, state: S) -> Result<(ContextLock<S>, Pass), S>
         ensures opened { IfOk result (λ made. opened made.0 ≡ end (S.history state)) }
         ensures pass { IfOk result (λ made. made.1 ≡ record {
-            lock = lock_id made.0;
-            seen = end (S.history state);
-            parts = 1048576;
-            mine = [];
-            stays = [];
+          lock = lock_id made.0;
+          seen = end (S.history state);
+          parts = 1048576;
+          mine = [];
+          stays = [];
         }) }
         ensures back { IfErr result (λ back. back ≡ state) }
     {
@@ -71,11 +71,8 @@ impl<S: Historic> ContextLock<S> {
             return Err(Pass::of(seat));
         }
         let state = shared.exchange(&mut seat, 0, None).unwrap();
-        Ok(Inside {
-            lock: self,
-            seat,
-            state,
-        })
+        let turn = Turn { lock: self, seat };
+        Ok(Inside { turn, state })
     }
 
     /// Waits for the turn, and takes it with the state. All that the pass has seen stands in the

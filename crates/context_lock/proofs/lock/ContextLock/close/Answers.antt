@@ -13,7 +13,7 @@ unwrap-state-requires g c =
     let seat = c.into_seat.result in
     let all = ap (λ h. h.parts) c.into_seat.ensures.held ∙ c.requires.parts in
     let t = closes g.S.Historic.history c.args.self.table.shared.key seat.id seat.me.0 _ _ all
-          c.into_seat.ensures.out.1.1 c.close_with-closed.ensures.values.2 in
+    c.into_seat.ensures.out.1.1 c.close_with-closed.ensures.values.2 in
     subst IsSome (some-injective (Some t.0) c.take.result (sym t.1 ∙ c.take.ensures.value)) refl
 
 pub returns-clause-fits : goal.returns-clause-fits
@@ -22,9 +22,9 @@ returns-clause-fits g c =
     let held = c.into_seat.ensures.held in
     let all = ap (λ h. h.parts) held ∙ c.requires.parts in
     let t = closes g.S.Historic.history c.args.self.table.shared.key seat.id seat.me.0 _ _ all
-          c.into_seat.ensures.out.1.1 c.close_with-closed.ensures.values.2 in
+    c.into_seat.ensures.out.1.1 c.close_with-closed.ensures.values.2 in
     let took : Some t.0 ≡ c.take.result
-          = some-injective (Some t.0) c.take.result (sym t.1 ∙ c.take.ensures.value) in
+    = some-injective (Some t.0) c.take.result (sym t.1 ∙ c.take.ensures.value) in
     let same : t.0 ≡ c.unwrap-state.result = search rules in
     subst (λ x. Fits (g.S.Historic.history x) c.args.pass) same
     (subst (Fits (g.S.Historic.history t.0)) held
@@ -36,9 +36,9 @@ returns-clause-once g c number =
     let held = c.into_seat.ensures.held in
     let all = ap (λ h. h.parts) held ∙ c.requires.parts in
     let t = closes g.S.Historic.history c.args.self.table.shared.key seat.id seat.me.0 _ _ all
-          c.into_seat.ensures.out.1.1 c.close_with-closed.ensures.values.2 in
+    c.into_seat.ensures.out.1.1 c.close_with-closed.ensures.values.2 in
     let took : Some t.0 ≡ c.take.result
-          = some-injective (Some t.0) c.take.result (sym t.1 ∙ c.take.ensures.value) in
+    = some-injective (Some t.0) c.take.result (sym t.1 ∙ c.take.ensures.value) in
     let same : t.0 ≡ c.unwrap-state.result = search rules in
     ap (λ h. times number h.mine) (sym held)
     ∙ (t.3 number

@@ -9,9 +9,12 @@ use Rattle.context_lock.proofs.lock.ContextLock.try_enter.Goals as goal
 
 pub compare_exchange-requires : goal.compare_exchange-requires
 compare_exchange-requires g c =
-    let out = c.into_seat-seat.ensures.out in
-    (search rules, search rules, begins_at g.S.Historic.history c.args.self.now.table.shared.key
-    g.S.Historic.shows _ _ _ out.0 out.1.0)
+    let out = c.into_seat-seat.ensures.out in (
+      search rules,
+      search rules,
+      begins_at g.S.Historic.history c.args.self.now.table.shared.key
+          g.S.Historic.shows _ _ _ out.0 out.1.0,
+    )
 
 pub exchange-requires : goal.exchange-requires
 exchange-requires g c =
@@ -29,9 +32,9 @@ returns-clause-comes g c =
     let found = c.exchange.ensures.2 in
     let same : t.0 ≡ c.unwrap-state.result = search rules in
     let table : c.exchange.new.seat.table_id ≡ seat.table_id
-          = c.exchange.ensures.0 ∙ c.compare_exchange.ensures.0 in
+    = c.exchange.ensures.0 ∙ c.compare_exchange.ensures.0 in
     let view : c.exchange.new.seat.me.0 ≡ entered history shows t.0 seat.me.0
-          = ap (λ m. m.0) c.exchange.ensures.3 ∙ ap (λ m. m.0) t.1 in
+    = ap (λ m. m.0) c.exchange.ensures.3 ∙ ap (λ m. m.0) t.1 in
     record {
       pass = (λ i. held_of (table i) (view i)) ∙ held;
       fits = subst (λ x. Fits (history x) c.args.pass) same
