@@ -1,7 +1,7 @@
 #!/usr/bin/env python3
 """Checks docs/CLAIMS.md, and what all documents name, against the code.
 
-Each row of docs/CLAIMS.md has a call with the clause, and its definitions and must-fail edits are there. The files that
+Each row of docs/CLAIMS.md has calls with their clauses, and its definitions and must-fail edits are there. The files that
 a document names are there, and the definitions that it names with their file stand in it. Prints one line a problem.
 """
 
@@ -110,27 +110,30 @@ def document_problems(path, crates):
     return problems
 
 
+def listed(cell):
+    """What a cell lists, without its quotes."""
+    return [item.strip().strip("`") for item in cell.split(",")]
+
+
 def row_problems(cells, functions):
-    """What is wrong with a row of the table."""
+    """What is wrong with a row of the table. Each call has a clause of the row, and each clause is one of a call."""
     if len(cells) != 5:
         return ["a row has five cells"]
-    call, label = cells[1].strip("`"), cells[2].strip("`")
-    named = [function for function in functions if function.is_named(call)]
-    if not named:
-        return [f"no function {call}"]
-    problems = []
-    if not any(label in function.labels for function in named):
-        problems.append(f"{call} has no clause {label}")
+    calls, labels = listed(cells[1]), listed(cells[2])
+    found = {call: {label for f in functions if f.is_named(call) for label in f.labels} for call in calls}
+    problems = [f"no function {call}" for call in calls if not any(f.is_named(call) for f in functions)]
+    problems += [f"{call} has no clause of {cells[2]}" for call in calls if not found[call].intersection(labels)]
+    problems += [f"{cells[1]}: no clause {label}" for label in labels if label not in set().union(*found.values())]
     definitions = definitions_in(cells[3])
     if cells[3] != "-" and not definitions:
-        problems.append(f"{call}, {label}: no definition `NAME` (`FILE`)")
+        problems.append(f"{cells[1]}: no definition `NAME` (`FILE`)")
     for name, file in definitions:
         if not defines(CRATES / file, name):
-            problems.append(f"{call}, {label}: {file} defines no {name}")
-    crate = call.split("::")[0]
-    for edit in cells[4].replace("`", "").split(", "):
-        if edit != "-" and not (CRATES / crate / "must-fail" / f"{edit}.edit").is_file():
-            problems.append(f"{call}, {label}: {crate} has no must-fail edit {edit}")
+            problems.append(f"{cells[1]}: {file} defines no {name}")
+    folders = [CRATES / call.split("::")[0] / "must-fail" for call in calls]
+    for edit in listed(cells[4]):
+        if edit != "-" and not any((folder / f"{edit}.edit").is_file() for folder in folders):
+            problems.append(f"{cells[1]}: no must-fail edit {edit}")
     return problems
 
 
