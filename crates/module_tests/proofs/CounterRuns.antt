@@ -21,9 +21,10 @@ use Rattle.core_types.specs.declared.stop.Stop.{Stop}
 use Rattle.core_types.specs.declared.stop.Stop.TheVariants as stop
 use Rattle.core_types.specs.declared.value.Value.{Value}
 use Rattle.core_types.specs.declared.value.Value.TheVariants as value
-use Rattle.module_laws.specs.Limits.{IsWithinLimits}
+use Rattle.core_types.specs.Limits.{IsWithinLimits}
 use Rattle.module_laws.specs.Meaning.{Did, type_of}
-use Rattle.module_laws.specs.Replay.{command_name, own_value, with_after}
+use Rattle.module_laws.specs.Named.{command_name}
+use Rattle.module_laws.specs.Replay.{own_value, with_after}
 use Rattle.module_laws.specs.Rewriting.{Builds}
 use Rattle.module_laws.specs.Runs.{Runs, Scene, State, scene}
 use Rattle.module_laws.specs.Told.{Told, called, is_typed, with_called, with_effect, with_keys, with_note, with_put, with_set}
@@ -33,7 +34,7 @@ use Rattle.module_laws.specs.declared.verdict.Verdict.{Verdict}
 use Rattle.module_laws.specs.declared.verdict.Verdict.TheVariants as verdict
 use Rattle.module_tests.specs.Counter.{changed, counter, counter_name, counter_note, found, moves, number_of, on_key, own, saved, shown, stored}
 use Rattle.module_tests.specs.CounterLaws.{stored_kept}
-use Rattle.module_laws.specs.inner.Plain.{answers_only, plain_state}
+use Rattle.module_laws.specs.Plain.{answers_only, plain_state}
 
 pub named : (words : Words) (name : Bytes) → 0 < length words
     → name ≡ map to_ascii_uppercase (word 0 words) → name ≡ command_name words

@@ -16,12 +16,13 @@ use Rattle.core_types.specs.declared.reply.Reply.{Reply}
 use Rattle.core_types.specs.declared.reply.Reply.TheVariants as reply
 use Rattle.core_types.specs.declared.tagged.Tagged.TheVariants as tagged
 use Rattle.module_laws.specs.Meaning.{Did, Meaning}
-use Rattle.module_laws.specs.Replay.{command_name, own_value, with_after}
+use Rattle.module_laws.specs.Named.{command_name}
+use Rattle.module_laws.specs.Replay.{own_value, with_after}
 use Rattle.module_laws.specs.Told.{Seen, called}
 use Rattle.module_laws.specs.Words.{Bytes, Words, Saved}
 use Rattle.module_laws.specs.declared.verdict.Verdict.{Verdict}
 use Rattle.module_laws.specs.declared.verdict.Verdict.TheVariants as verdict
-use Rattle.module_laws.specs.inner.Plain.{answers_only}
+use Rattle.module_laws.specs.Plain.{answers_only}
 
 abbrev pub counter_name : Bytes
 counter_name = codes "upcounter"

@@ -19,14 +19,15 @@ use Rattle.core_types.specs.declared.load_fault.LoadFault.{LoadFault}
 use Rattle.core_types.specs.declared.tagged.Tagged.TheVariants as tagged
 use Rattle.type_ids.proofs.Names.{named-found}
 use Rattle.module_laws.specs.Laws.{AreCommands, IsCall, IsCommand, IsDone, IsLawful, IsSound}
-use Rattle.module_laws.specs.Limits.{IsWithinLimits}
+use Rattle.core_types.specs.Limits.{IsWithinLimits}
 use Rattle.module_laws.specs.Meaning.{type_of}
-use Rattle.module_laws.specs.Replay.{has_dot, own_value, replayed, replayed_on, with_after}
+use Rattle.module_laws.specs.Named.{has_dot}
+use Rattle.module_laws.specs.Replay.{own_value, replayed, replayed_on, with_after}
 use Rattle.module_laws.specs.Told.{Builtins, Seen}
 use Rattle.module_laws.specs.Types.{is_full, is_short}
 use Rattle.module_laws.specs.Words.{Bytes, Words, Saved}
 use Rattle.module_tests.specs.Counter.{changed, counter, counter_after, counter_loads, counter_name, counter_rows, counter_says, makes, moves, number_of, on_key, own, saved, shown}
-use Rattle.module_laws.specs.inner.Plain.{answers_only}
+use Rattle.module_laws.specs.Plain.{answers_only}
 use Rattle.module_laws.specs.inner.Rows.{found_row, replayed_beside}
 
 -- a key that gets a number or none leaves a keyspace

@@ -16,7 +16,7 @@ use Rattle.module_laws.specs.Meaning.{Meaning}
 use Rattle.module_laws.specs.Types.{is_short}
 use Rattle.module_laws.specs.Words.{Bytes, Saved}
 use Rattle.module_laws.specs.declared.verdict.Verdict.TheVariants as verdict
-use Rattle.module_laws.specs.inner.Plain.{answers_only}
+use Rattle.module_laws.specs.Plain.{answers_only}
 
 abbrev pub least_loads : Saved → ℕ → Result Saved LoadFault
 least_loads items (suc version) = Err (load_fault.Version (suc version))

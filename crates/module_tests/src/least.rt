@@ -4,7 +4,7 @@ ghost use Rattle.std.specs.Prelude.{◌≡◌, refl, [], ◌∷◌, None};
 ghost use Rattle.module_laws.specs.Applying.{Applies};
 ghost use Rattle.module_laws.specs.Meaning.{type_of};
 ghost use Rattle.module_tests.specs.Least.{least, least_lawful, least_name};
-ghost use Rattle.module_laws.specs.inner.Plain.{plain_state};
+ghost use Rattle.module_laws.specs.Plain.{plain_state};
 
 use core_types::{
     Args, Blob, Chores, CommandSpec, Effects, Items, LoadFault, NoMemory, Note, Reply, Stop,
