@@ -17,4 +17,6 @@ pub mod KeyLaws
 pub mod Limits
 pub mod Answers
 pub mod CommandLaws
+pub mod Shown
+pub mod Codes
 pub mod inner

@@ -20,6 +20,7 @@ refusal_text refusals.OffsetOutOfRange = codes "ERR offset is out of range"
 refusal_text refusals.DatabaseOutOfRange = codes "ERR DB index is out of range"
 refusal_text refusals.Syntax = codes "ERR syntax error"
 refusal_text refusals.TooLong = codes "ERR string exceeds maximum allowed size (536870912 bytes)"
+refusal_text refusals.NotAKeyCommand = codes "ERR modules may call built-in key commands only"
 
 abbrev pub refused : Refusal → Reply
 refused refusal = replies.Error (refusal_text refusal)

@@ -32,6 +32,8 @@ pub enum Refusal {
     Syntax,
     /// A string would be longer than 536,870,912 bytes.
     TooLong,
+    /// A module called a command that is no built-in key command.
+    NotAKeyCommand,
 }
 
 impl Refusal {
@@ -53,6 +55,7 @@ impl Refusal {
             Refusal::DatabaseOutOfRange => b"ERR DB index is out of range",
             Refusal::Syntax => b"ERR syntax error",
             Refusal::TooLong => b"ERR string exceeds maximum allowed size (536870912 bytes)",
+            Refusal::NotAKeyCommand => b"ERR modules may call built-in key commands only",
         }
     }
 

@@ -3,6 +3,7 @@ pub mod Carrying
 pub mod Others
 pub mod Removing
 pub mod PairsSet
+pub mod AllOrNone
 pub mod Printed
 pub mod Due
 pub mod LimitsOfKeys

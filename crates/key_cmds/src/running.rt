@@ -3,7 +3,6 @@
 ghost use Rattle.std.specs.Prelude.{◌≡◌, ◌++◌, IfOk, OnOk, OnErr};
 ghost use Rattle.core_types.specs.CommandRow.{MeetArity};
 ghost use Rattle.key_cmds.specs.Commands.{command_row, key_row};
-ghost use Rattle.key_cmds.specs.Leaving.{IsAfterFailure};
 ghost use Rattle.key_cmds.specs.Rows.{does, on_keys};
 ghost use Rattle.key_cmds.specs.Run.{told};
 
@@ -22,8 +21,7 @@ use std::hash::RandomState;
 
 /// Runs a command on the keys at a moment in milliseconds. New hashes hash their names with
 /// `hashing`. The values of modules that leave the keys go to the end of `left`, and are the
-/// caller's to be freed. An `Err` changes nothing, but for an MSET, which may have set some of its
-/// pairs in front.
+/// caller's to be freed. An `Err` changes nothing.
 pub fn run<N: ModuleValue>(
     alloc: Global,
     hashing: RandomState,
@@ -39,9 +37,7 @@ pub fn run<N: ModuleValue>(
         (λ ran. ran ≡ told (does N.type_name moment cmd keys.old words.now)) }
     ensures left { OnOk result (left.new.items
         ≡ left.old.items ++ (does N.type_name moment cmd keys.old words.now).left) }
-    ensures err { OnErr result (IsAfterFailure cmd words.now
-        (record { keys = keys.old; left = left.old.items })
-        (record { keys = keys.new; left = left.new.items })) }
+    ensures err { OnErr result ((keys.new ≡ keys.old) × (left.new.items ≡ left.old.items)) }
 {
     match cmd {
         Command::Keys(cmd) => on_keys(alloc, keys, moment, cmd, words, left),
@@ -67,9 +63,7 @@ fn on_keys<N: ModuleValue>(
         (λ ran. ran ≡ told (on_keys N.type_name moment cmd keys.old words.now)) }
     ensures left { OnOk result (left.new.items
         ≡ left.old.items ++ (on_keys N.type_name moment cmd keys.old words.now).left) }
-    ensures err { OnErr result (IsAfterFailure (Command.Keys cmd) words.now
-        (record { keys = keys.old; left = left.old.items })
-        (record { keys = keys.new; left = left.new.items })) }
+    ensures err { OnErr result ((keys.new ≡ keys.old) × (left.new.items ≡ left.old.items)) }
 {
     match cmd {
         KeyCmd::Del => delete(alloc, keys, words, left),

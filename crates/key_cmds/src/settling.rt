@@ -124,8 +124,8 @@ fn replace<N>(
     }
 }
 
-// Gives a key that is not there a value.
-fn put_new<N>(keys: &mut KeyStore<N>, key: &[u8], value: Plain) -> Result<(), NoMemory>
+/// Gives a key that is not there a value. An `Err` changes nothing.
+pub(crate) fn put_new<N>(keys: &mut KeyStore<N>, key: &[u8], value: Plain) -> Result<(), NoMemory>
     requires absent { value_at keys.old key.now ≡ None }
     ensures ok { OnOk result (keys.new ≡ with_value keys.old key.now (value_of value)) }
     ensures err { OnErr result (keys.new ≡ keys.old) }
@@ -163,8 +163,8 @@ pub(crate) fn hand_over<N>(leaving: Option<Value<N>>, left: &mut Vec<N>)
     }
 }
 
-// Drops a value that is no module's.
-fn discard<N>(value: Value<N>)
+/// Drops a value that is no module's.
+pub(crate) fn discard<N>(value: Value<N>)
     requires { native_in (Some value) ≡ [] }
 {
     match value {

@@ -165,6 +165,21 @@ impl<N> KeyStore<N> {
         }
     }
 
+    /// Gives the key of this name, which is there, this value and no deadline, and gives back the
+    /// value that it had. Takes no memory.
+    pub fn replace_by(&mut self, name: Name, value: Value<N>) -> Value<N>
+        requires there { IsSome (value_at self.old name) }
+        ensures before { Some result ≡ value_at self.old name }
+        ensures now { self.new ≡ with_value self.old name value }
+    {
+        let deadline = self.deadline(name.as_slice());
+        let before = self
+            .table
+            .exchange(name.as_slice(), Stored::new(value, None));
+        self.dues.forget(name, deadline);
+        before.into_value()
+    }
+
     /// Moves what a key has to another key, with its deadline, and gives the value that the other
     /// key had. The first key must be there, and the other must be another. An `Err` changes
     /// nothing.

@@ -1,0 +1,11 @@
+pub mod Walking
+pub mod Entries
+pub mod Trees
+pub mod Listed
+pub mod LineSet
+pub mod Places
+pub mod Changed
+pub mod Standing
+pub mod Agreeing
+pub mod Renamed
+pub mod Few

@@ -1,0 +1,6 @@
+pub mod Patterns
+pub mod Rolls
+pub mod Subscribers
+pub mod Outcomes
+pub mod Messages
+pub mod inner
