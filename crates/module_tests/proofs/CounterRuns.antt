@@ -32,7 +32,7 @@ use Rattle.module_laws.specs.Types.{NativeType}
 use Rattle.module_laws.specs.Words.{Bytes, Words, Saved}
 use Rattle.module_laws.specs.declared.verdict.Verdict.{Verdict}
 use Rattle.module_laws.specs.declared.verdict.Verdict.TheVariants as verdict
-use Rattle.module_tests.specs.Counter.{changed, counter, counter_name, counter_note, found, moves, number_of, on_key, own, saved, shown, stored}
+use Rattle.module_tests.specs.Counter.{changed, counter, counter_name, counter_note, found, moves, number_of, own, saved, shown, stored}
 use Rattle.module_tests.specs.CounterLaws.{stored_kept}
 use Rattle.module_laws.specs.Plain.{answers_only, plain_state}
 
@@ -197,7 +197,7 @@ rebuilds key n small short = record {
   some = omega arith;
   own = (
     record {
-      row = on_key (codes "COUNTER.SET") 3 true;
+      row = writing (codes "COUNTER.SET") (pos 3);
       named = refl;
       writes = refl;
       keyed = refl;

@@ -316,6 +316,8 @@ impl Module for Counters {
 
     ghost lawful = { counter_lawful };
 
+    ghost counted = { λ c. c.counted };
+
     ghost reads_back = { λ c. refl };
 
     fn commands(&self) -> &[CommandSpec] {
