@@ -9,6 +9,7 @@ use Rattle.std.specs.Str.{bytes_eq}
 use Rattle.std.proofs.lemmas.List.{append-nil}
 use Rattle.std.proofs.lemmas.Option.{none-some}
 use Rattle.byte_text.proofs.Decimals.{decimal-short, u64_of-decimal}
+use Rattle.core_types.specs.CommandRow.{writing}
 use Rattle.core_types.specs.Done.{own_words}
 use Rattle.sequences.specs.Words.{word}
 use Rattle.core_types.specs.Keys.{Entry, Keys, Native, entry_at, value_at, with_changed, with_entry, with_value}

@@ -1,15 +1,17 @@
 -- That the counter obeys the laws of a module.
-use Rattle.std.proofs.Common.{◌≡◌, ℕ, suc, zero, ◌≤◌, Bool, true, false, [], ◌∷◌, map, Option, Some, None, Result, Ok, Err, refl, sym, ap, subst, ◌∙◌, true≢false, arith, pos, if◌then◌else◌}
+use Rattle.std.proofs.Common.{◌≡◌, ℕ, suc, zero, ◌≤◌, Bool, true, false, [], ◌∷◌, map, Option, Some, None, Result, Ok, Err, refl, sym, ap, subst, ◌∙◌, true≢false, arith, pos, ◌<◌, ◌^◌, if◌then◌else◌}
 use Rattle.std.specs.Prelude.{◌==◌, codes, IsTrue}
 use Rattle.std.specs.Char.{to_ascii_uppercase}
 use Rattle.std.specs.Cmp.Lexicographic.{bytes_decides}
 use Rattle.std.specs.List.{AllByRecursion, list_all}
+use Rattle.std.specs.Fmt.{decimal}
 use Rattle.std.specs.Option.{option_and_then, option_map}
 use Rattle.std.specs.Result.{is_err, result_unwrap_or}
 use Rattle.std.specs.Str.{bytes_eq}
 use Rattle.std.proofs.lemmas.Bool.Decides.{nat_tests}
 use Rattle.std.proofs.lemmas.List.{length-map}
 use Rattle.std.proofs.lemmas.Option.{none-some, same_Some}
+use Rattle.byte_text.proofs.Decimals.{decimal-short, u64_of-decimal}
 use Rattle.core_types.proofs.KeyLemmas.{changed_kept, removed_kept}
 use Rattle.core_types.specs.CommandRow.{CommandRow, takes, writing}
 use Rattle.sequences.specs.Words.{word}
@@ -239,11 +241,14 @@ writes_case (name ∷ words) old (Some made) left is makes =
 one_word : (name : Bytes) → IsString name → IsWithinLimits (name ∷ [] ∷ [])
 one_word name short = record { some = omega arith; few = omega arith; each = (short, (omega arith, tt)) }
 
+small : 7 < 2 ^ 64
+small = omega arith
+
 -- a SET makes a number of none
 set_written : IsWritten counter (writing (codes "COUNTER.SET") (pos 3))
 unfolding word
 set_written = record {
-  words = codes "COUNTER.SET" ∷ [] ∷ codes "7" ∷ [];
+  words = codes "COUNTER.SET" ∷ [] ∷ decimal 7 ∷ [];
   old = None;
   left = Some (saved 7);
   named = refl;
@@ -251,10 +256,10 @@ set_written = record {
   limits = record {
     some = omega arith;
     few = omega arith;
-    each = (omega arith, (omega arith, (omega arith, tt)));
+    each = (omega arith, (omega arith, (omega (arith, (decimal-short 7 small).few), tt)));
   };
   full = tt;
-  made = refl;
+  made = ap (λ n. option_map (option_map saved) (option_map (λ k. Some k) n)) (u64_of-decimal 7 small);
 }
 
 -- a RAISE makes 8 of 7, and a DROP nothing of it

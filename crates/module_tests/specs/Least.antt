@@ -1,6 +1,6 @@
 -- The least module: one command, which answers 1 and changes nothing, and no value that a key may
 -- have.
-use Rattle.std.specs.Prelude.{◌≡◌, ℕ, suc, zero, pos, true, false, [], ◌∷◌, None, Result, Ok, Err, refl, codes}
+use Rattle.std.specs.Prelude.{◌≡◌, ℕ, suc, zero, pos, true, false, [], ◌∷◌, Result, Ok, Err, refl, codes}
 use Rattle.std.proofs.Common.{sym, ap, true≢false, arith}
 use Rattle.std.specs.Result.{is_err, result_unwrap_or}
 use Rattle.std.specs.Cmp.Lexicographic.{bytes_decides}

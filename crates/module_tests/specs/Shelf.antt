@@ -1,5 +1,5 @@
 -- What a context tells that keeps what was put into it in a list, the newest first.
-use Rattle.std.specs.Prelude.{ℕ, Bool, true, List, [], ◌∷◌, map, reverse, position, Option, Some, None, ◌≡◌, slice_index_or, if◌then◌else◌, codes}
+use Rattle.std.specs.Prelude.{ℕ, Bool, true, List, [], ◌∷◌, map, reverse, position, Option, Some, None, ◌≡◌, slice_index_or, if◌then◌else◌}
 use Rattle.std.specs.Str.{bytes_eq}
 use Rattle.core_types.specs.Keys.{Entry, Keys, Native, no_keys, with_value, without}
 use Rattle.core_types.specs.declared.effect.Effect.{Effect}

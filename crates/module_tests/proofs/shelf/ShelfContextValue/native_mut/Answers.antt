@@ -18,10 +18,8 @@ returns-in-Some g c =
               (put_here slots c.args.key.now c.in-Some.place at.newest slot (left w)
               (ap (λ s. s.key) is ∙ key_here slots c.args.key.now c.in-Some.place at.newest slot) (ap (λ s. s.live) is ∙ at.live slot))
               (names_same slots c.in-Some.place slot (left w) (ap (λ s. s.name) is)),
-          (
-            refl,
-            types_kept slots c.args.key.now c.in-Some.place at.newest slot (left w) (ap (λ s. s.name) is) (at.live slot),
-          ),
+          refl,
+          types_kept slots c.args.key.now c.in-Some.place at.newest slot (left w) (ap (λ s. s.name) is) (at.live slot),
         )),
         tt,
       ),
