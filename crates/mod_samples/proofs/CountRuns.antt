@@ -29,7 +29,7 @@ use Rattle.module_laws.specs.Rewriting.{IsOwnEffect, Rebuilds, after_all}
 use Rattle.module_laws.specs.Told.{Seen}
 use Rattle.module_laws.specs.Types.{is_short}
 use Rattle.module_laws.specs.Words.{Bytes, Words, Saved}
-use Rattle.module_laws.specs.inner.Plain.{answers_only}
+use Rattle.module_laws.specs.Plain.{answers_only}
 use Rattle.mod_samples.specs.CountParts.{counts_in, counts_of, saved_counts}
 use Rattle.mod_samples.specs.Counts.{Counted, are_counts, count_at, counted, counts_rise, is_count, is_word, some_counts, with_count, without_word, word_order}
 use Rattle.mod_samples.specs.WordCount.{count_after, count_name, counts_at, counts_or_none, counts_shown, drop_name, edits, edits_where, gets, is_drop, positive, set_name, set_words, to_set, value_of, wordcount, words_at}

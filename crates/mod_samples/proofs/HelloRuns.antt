@@ -20,7 +20,7 @@ use Rattle.module_laws.specs.Replay.{own_value}
 use Rattle.module_laws.specs.Rewriting.{IsOwnEffect, Rebuilds, after_all}
 use Rattle.module_laws.specs.Told.{Seen}
 use Rattle.module_laws.specs.Words.{Bytes, Words}
-use Rattle.module_laws.specs.inner.Plain.{answers_only}
+use Rattle.module_laws.specs.Plain.{answers_only}
 use Rattle.mod_samples.specs.HelloNumbers.{numbers_of, saved_numbers}
 use Rattle.mod_samples.specs.HelloType.{hello_after, hello_name, hellotype, insert_name, lengths, list_at, numbers_at, numbers_or_none, ranges, shown, to_insert}
 use Rattle.mod_samples.specs.Rising.{inserted, is_rising, rises}

@@ -6,8 +6,8 @@ use Rattle.core_types.specs.Done.{own_words}
 use Rattle.sequences.specs.Words.{word}
 use Rattle.core_types.specs.declared.effect.Effect.{Effect}
 use Rattle.sequences.specs.declared.no_memory.NoMemory.{NoMemory}
-use Rattle.module_laws.specs.Limits.{IsWithinLimits}
-use Rattle.module_laws.specs.Replay.{command_name}
+use Rattle.core_types.specs.Limits.{IsWithinLimits}
+use Rattle.module_laws.specs.Named.{command_name}
 use Rattle.module_laws.specs.Words.{Bytes, Words}
 use Rattle.mod_samples.specs.Words.{own}
 

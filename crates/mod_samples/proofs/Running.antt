@@ -15,7 +15,7 @@ use Rattle.core_types.specs.declared.stop.Stop.TheVariants as stop
 use Rattle.core_types.specs.declared.value.Value.{Value}
 use Rattle.core_types.specs.declared.value.Value.TheVariants as value
 use Rattle.module_laws.specs.Laws.{IsFullOrNone, IsSound}
-use Rattle.module_laws.specs.Limits.{IsWithinLimits}
+use Rattle.core_types.specs.Limits.{IsWithinLimits}
 use Rattle.module_laws.specs.Meaning.{Did, Meaning, type_of}
 use Rattle.module_laws.specs.Replay.{own_value, with_after}
 use Rattle.module_laws.specs.Runs.{Runs, Scene, State, scene}
@@ -24,7 +24,7 @@ use Rattle.module_laws.specs.Types.{NativeType}
 use Rattle.module_laws.specs.Words.{Bytes, Words, Saved}
 use Rattle.module_laws.specs.declared.verdict.Verdict.{Verdict}
 use Rattle.module_laws.specs.declared.verdict.Verdict.TheVariants as verdict
-use Rattle.module_laws.specs.inner.Plain.{answers_only, plain_state}
+use Rattle.module_laws.specs.Plain.{answers_only, plain_state}
 use Rattle.mod_samples.specs.Changes.{Change, changes, leaves, with_notes}
 use Rattle.mod_samples.specs.inner.Changing.{left_kept}
 

@@ -13,7 +13,7 @@ use Rattle.module_laws.specs.Told.{Seen, Told}
 use Rattle.module_laws.specs.Words.{Bytes, Words, Saved}
 use Rattle.module_laws.specs.declared.verdict.Verdict.{Verdict}
 use Rattle.module_laws.specs.declared.verdict.Verdict.TheVariants as verdict
-use Rattle.module_laws.specs.inner.Plain.{answers_only}
+use Rattle.module_laws.specs.Plain.{answers_only}
 
 -- nothing changes, and this is replied
 abbrev pub replies : Seen → Reply → Did Verdict
@@ -40,9 +40,7 @@ pub record Change : Type 0 where
 
 -- the key of a module of this name is left so, and this is replied
 abbrev pub changes : Bytes → Seen → Change → Reply → Did Verdict
-changes name seen change said = record {
-  answer = verdict.Say said;
-  private = [];
+changes name seen change said = record (answers_only (verdict.Say said) seen) {
   keys = with_after name (word 1 change.effect) seen.keys change.made;
   effects = record { words = change.effect } ∷ [];
   notes = change.notes;
@@ -50,13 +48,8 @@ changes name seen change said = record {
 
 -- the key is left so, and nothing else is done
 abbrev pub leaves : Bytes → Seen → Bytes → Option Saved → Did (Unit {0})
-leaves name seen key made = record {
-  answer = tt;
-  private = [];
-  keys = with_after name key seen.keys made;
-  effects = [];
-  notes = [];
-}
+leaves name seen key made =
+    record (answers_only tt seen) { keys = with_after name key seen.keys made }
 
 -- notes were added
 abbrev pub with_notes : List Note → Told → Told

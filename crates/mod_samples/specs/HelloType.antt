@@ -4,7 +4,7 @@ use Rattle.std.specs.Char.{to_ascii_uppercase}
 use Rattle.std.specs.Option.{option_map, unwrap_or}
 use Rattle.std.specs.Str.{bytes_eq}
 use Rattle.byte_text.specs.Number.{i64_of}
-use Rattle.core_types.specs.CommandRow.{CommandRow}
+use Rattle.core_types.specs.CommandRow.{CommandRow, reading, writing}
 use Rattle.sequences.specs.Words.{word}
 use Rattle.core_types.specs.Keys.{Keys, Native, value_at}
 use Rattle.core_types.specs.declared.part.Part.TheVariants as part
@@ -17,7 +17,7 @@ use Rattle.module_laws.specs.Replay.{own_value}
 use Rattle.module_laws.specs.Told.{Seen}
 use Rattle.module_laws.specs.Words.{Bytes, Words, Saved}
 use Rattle.module_laws.specs.declared.verdict.Verdict.{Verdict}
-use Rattle.module_laws.specs.inner.Plain.{answers_only}
+use Rattle.module_laws.specs.Plain.{silent}
 use Rattle.mod_samples.specs.Changes.{changes, count_reply, module_note, refuses, replies}
 use Rattle.mod_samples.specs.HelloNumbers.{hello_loads, numbers_of, saved_numbers}
 use Rattle.mod_samples.specs.Rising.{inserted}
@@ -36,9 +36,7 @@ abbrev pub len_name : Bytes
 len_name = codes "HELLOTYPE.LEN"
 
 abbrev pub hello_rows : List CommandRow
-hello_rows = record { name = insert_name; arity = pos 3; writes = true; key = 1 }
-    ∷ record { name = range_name; arity = pos 4; writes = false; key = 1 }
-    ∷ record { name = len_name; arity = pos 2; writes = false; key = 1 } ∷ []
+hello_rows = writing insert_name (pos 3) ∷ reading range_name (pos 4) ∷ reading len_name (pos 2) ∷ []
 
 -- a list of numbers as contracts see it
 abbrev pub shown : List ℤ → Native
@@ -116,18 +114,9 @@ is_empty_list (tagged.Number zero ∷ parts) = true
 is_empty_list _ = false
 
 abbrev pub hellotype : Meaning
-hellotype = record {
-  name = hello_name;
-  version = 1;
-  rows = hello_rows;
+hellotype = record (silent hello_name 1 hello_rows) {
   is_empty = is_empty_list;
   says = λ private seen words. hello_says seen (own words);
-  replies = λ private seen payload. answers_only reply.Null seen;
-  times_out = λ private seen job. answers_only reply.Null seen;
-  goes = λ private seen job. answers_only tt seen;
-  tells = λ private seen op. answers_only [] seen;
-  hears = λ private note. record { private = []; chores = [] };
   after = hello_after;
   loads = hello_loads;
-  works = λ job. job;
 }

@@ -5,7 +5,7 @@ use Rattle.std.specs.Fmt.{decimal}
 use Rattle.std.specs.Option.{is_none, option_map, unwrap_or}
 use Rattle.std.specs.Str.{bytes_eq}
 use Rattle.byte_text.specs.Number.{i64_of}
-use Rattle.core_types.specs.CommandRow.{CommandRow}
+use Rattle.core_types.specs.CommandRow.{CommandRow, reading, writing}
 use Rattle.sequences.specs.Words.{word}
 use Rattle.core_types.specs.Keys.{Keys, Native, value_at}
 use Rattle.core_types.specs.declared.note.Note.{Note}
@@ -19,7 +19,7 @@ use Rattle.module_laws.specs.Replay.{own_value}
 use Rattle.module_laws.specs.Told.{Seen}
 use Rattle.module_laws.specs.Words.{Bytes, Words, Saved}
 use Rattle.module_laws.specs.declared.verdict.Verdict.{Verdict}
-use Rattle.module_laws.specs.inner.Plain.{answers_only}
+use Rattle.module_laws.specs.Plain.{silent}
 use Rattle.mod_samples.specs.Changes.{changes, module_note, refuses, replies}
 use Rattle.mod_samples.specs.CountParts.{count_loads, counts_of, saved_counts}
 use Rattle.mod_samples.specs.Counts.{Counted, count_at, with_count, without_word}
@@ -41,10 +41,8 @@ abbrev pub drop_name : Bytes
 drop_name = codes "WORDCOUNT.DROP"
 
 abbrev pub count_rows : List CommandRow
-count_rows = record { name = add_name; arity = pos 3; writes = false; key = 1 }
-    ∷ record { name = set_name; arity = pos 4; writes = true; key = 1 }
-    ∷ record { name = get_name; arity = pos 3; writes = false; key = 1 }
-    ∷ record { name = drop_name; arity = pos 3; writes = true; key = 1 } ∷ []
+count_rows = reading add_name (pos 3) ∷ writing set_name (pos 4) ∷ reading get_name (pos 3)
+    ∷ writing drop_name (pos 3) ∷ []
 
 -- words with counts as contracts see them
 abbrev pub counts_shown : List Counted → Native
@@ -173,18 +171,9 @@ are_no_words (tagged.Number zero ∷ parts) = true
 are_no_words _ = false
 
 abbrev pub wordcount : Meaning
-wordcount = record {
-  name = count_name;
-  version = 0;
-  rows = count_rows;
+wordcount = record (silent count_name 0 count_rows) {
   is_empty = are_no_words;
   says = λ private seen words. count_says seen (own words);
-  replies = λ private seen payload. answers_only reply.Null seen;
-  times_out = λ private seen job. answers_only reply.Null seen;
-  goes = λ private seen job. answers_only tt seen;
-  tells = λ private seen op. answers_only [] seen;
-  hears = λ private note. record { private = []; chores = [] };
   after = count_after;
   loads = count_loads;
-  works = λ job. job;
 }

@@ -1,6 +1,6 @@
 -- The words of a module's command.
 use Rattle.std.specs.Prelude.{◌∷◌, drop}
-use Rattle.module_laws.specs.Replay.{command_name}
+use Rattle.module_laws.specs.Named.{command_name}
 use Rattle.module_laws.specs.Words.{Words}
 
 -- the words of a command, its name in upper case

@@ -5,4 +5,5 @@ pub mod HelloLaws
 pub mod CountsRise
 pub mod CountsBack
 pub mod CountLaws
+pub mod CountLawful
 pub mod States

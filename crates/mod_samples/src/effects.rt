@@ -1,7 +1,7 @@
 //! What a change of a module adds.
 
 ghost use Rattle.std.specs.Prelude.{◌≡◌, OnOk, OnErr};
-ghost use Rattle.module_laws.specs.Limits.{IsSmallEffect};
+ghost use Rattle.core_types.specs.Limits.{IsSmallEffect};
 ghost use Rattle.module_laws.specs.Told.{with_effect};
 
 use core_types::{Effect, NoMemory};
@@ -17,6 +17,7 @@ pub(crate) fn add_effect<V: Viewed, C: Context<V>>(
     requires { IsSmallEffect effect }
     ensures ok { OnOk result (C.told ctx.new ≡ with_effect effect (C.told ctx.old)) }
     ensures holds { C.held ctx.new ≡ C.held ctx.old }
+    ensures typed { C.typed ctx.new ≡ C.typed ctx.old }
     ensures err { OnErr result (C.told ctx.new ≡ C.told ctx.old) }
 {
     ctx.replicate(alloc, effect)

@@ -8,11 +8,11 @@ ghost use Rattle.sequences.specs.Words.{word};
 ghost use Rattle.byte_text.specs.Number.{i64_of};
 ghost use Rattle.module_laws.specs.Applying.{Applies, saved_of};
 ghost use Rattle.module_laws.specs.Laws.{IsCall};
-ghost use Rattle.module_laws.specs.Limits.{IsSmallEffect};
+ghost use Rattle.core_types.specs.Limits.{IsSmallEffect};
 ghost use Rattle.module_laws.specs.Meaning.{type_of};
 ghost use Rattle.module_laws.specs.Runs.{Runs, scene};
 ghost use Rattle.module_laws.specs.Told.{with_native};
-ghost use Rattle.module_laws.specs.inner.Plain.{answers_only, plain_state};
+ghost use Rattle.module_laws.specs.Plain.{answers_only, plain_state};
 ghost use Rattle.mod_samples.specs.Changes.{leaves};
 ghost use Rattle.mod_samples.specs.HelloNumbers.{saved_numbers};
 ghost use Rattle.mod_samples.specs.HelloType.{hello_after, hello_name, hello_rows, hello_says, hellotype, inserts, lengths, list_at, natural, number_array, numbers_at, ranges, shown, to_insert};
@@ -156,6 +156,7 @@ fn write<C: Context<HelloList>>(
     ensures ok { OnOk result (C.told ctx.new ≡ with_native key.now
         (shown (inserted n (list_at (C.told ctx.old).seen.keys key.now))) (C.told ctx.old)) }
     ensures holds { C.held ctx.new ≡ C.held ctx.old }
+    ensures typed { C.typed ctx.new ≡ C.typed ctx.old }
     ensures err { OnErr result (C.told ctx.new ≡ C.told ctx.old) }
 {
     match ctx.native_mut(alloc, key) {
@@ -203,6 +204,7 @@ impl HelloType {
             (scene (plain_state self.old.tally.made self.old.tally.freed) (C.told ctx.old))
             (scene (plain_state self.new.tally.made self.new.tally.freed) (C.told ctx.new)) }
         ensures holds { C.held ctx.new ≡ C.held ctx.old }
+        ensures typed { C.typed ctx.new ≡ C.typed ctx.old }
         ensures made { self.new.tally.made ≤ self.old.tally.made + 1 }
     {
         let numbers = Rising::one(alloc, n)?;
@@ -234,6 +236,7 @@ impl HelloType {
             (scene (plain_state self.old.tally.made self.old.tally.freed) (C.told ctx.old))
             (scene (plain_state self.new.tally.made self.new.tally.freed) (C.told ctx.new)) }
         ensures holds { C.held ctx.new ≡ C.held ctx.old }
+        ensures typed { C.typed ctx.new ≡ C.typed ctx.old }
         ensures made { self.new.tally.made ≤ self.old.tally.made + 1 }
     {
         match ctx.kind(key) {
@@ -259,6 +262,7 @@ impl HelloType {
             (scene (plain_state self.old.tally.made self.old.tally.freed) (C.told ctx.old))
             (scene (plain_state self.new.tally.made self.new.tally.freed) (C.told ctx.new)) }
         ensures holds { C.held ctx.new ≡ C.held ctx.old }
+        ensures typed { C.typed ctx.new ≡ C.typed ctx.old }
         ensures made { self.new.tally.made ≤ self.old.tally.made + 1 }
     {
         let Some(n) = read_i64(word_at(&own.words, 2)) else {
@@ -294,6 +298,8 @@ impl Module for HelloType {
 
     ghost types_are = { refl };
 
+    ghost counted = { λ m. m.tally.counted };
+
     ghost lawful = { hello_lawful };
 
     ghost reads_back = { λ l. hello_reads_back l.numbers l.rising };
@@ -314,6 +320,7 @@ impl Module for HelloType {
             (scene (plain_state self.old.tally.made self.old.tally.freed) (C.told ctx.old))
             (scene (plain_state self.new.tally.made self.new.tally.freed) (C.told ctx.new)) }
         ensures holds { C.held ctx.new ≡ C.held ctx.old }
+        ensures typed { C.typed ctx.new ≡ C.typed ctx.old }
         ensures made { self.new.tally.made ≤ self.old.tally.made + 1 }
     {
         let own = own(alloc, words)?;
@@ -406,6 +413,7 @@ impl Module for HelloType {
             (scene (plain_state self.old.tally.made self.old.tally.freed) (C.told ctx.old))
             (scene (plain_state self.new.tally.made self.new.tally.freed) (C.told ctx.new)) }
         ensures holds { C.held ctx.new ≡ C.held ctx.old }
+        ensures typed { C.typed ctx.new ≡ C.typed ctx.old }
         ensures same { self.new ≡ self.old }
     {
         Ok(Reply::Null)
@@ -422,6 +430,7 @@ impl Module for HelloType {
             (scene (plain_state self.old.tally.made self.old.tally.freed) (C.told ctx.old))
             (scene (plain_state self.new.tally.made self.new.tally.freed) (C.told ctx.new)) }
         ensures holds { C.held ctx.new ≡ C.held ctx.old }
+        ensures typed { C.typed ctx.new ≡ C.typed ctx.old }
         ensures same { self.new ≡ self.old }
     {
         Ok(Reply::Null)
@@ -437,6 +446,7 @@ impl Module for HelloType {
             (scene (plain_state self.old.tally.made self.old.tally.freed) (C.told ctx.old))
             (scene (plain_state self.new.tally.made self.new.tally.freed) (C.told ctx.new)) }
         ensures holds { C.held ctx.new ≡ C.held ctx.old }
+        ensures typed { C.typed ctx.new ≡ C.typed ctx.old }
         ensures same { self.new ≡ self.old }
     {
         Ok(())
@@ -453,6 +463,7 @@ impl Module for HelloType {
             (scene (plain_state self.old.tally.made self.old.tally.freed) (C.told ctx.old))
             (scene (plain_state self.new.tally.made self.new.tally.freed) (C.told ctx.new)) }
         ensures holds { C.held ctx.new ≡ C.held ctx.old }
+        ensures typed { C.typed ctx.new ≡ C.typed ctx.old }
         ensures same { self.new ≡ self.old }
     {
         Ok(Blob::new(alloc))

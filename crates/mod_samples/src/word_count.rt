@@ -8,19 +8,20 @@ ghost use Rattle.sequences.specs.Words.{word};
 ghost use Rattle.byte_text.specs.Number.{i64_of};
 ghost use Rattle.module_laws.specs.Applying.{Applies, saved_of};
 ghost use Rattle.module_laws.specs.Laws.{IsCall};
-ghost use Rattle.module_laws.specs.Limits.{IsSmallEffect, IsWithinLimits};
+ghost use Rattle.core_types.specs.Limits.{IsSmallEffect, IsWithinLimits};
 ghost use Rattle.module_laws.specs.Meaning.{type_of};
 ghost use Rattle.module_laws.specs.Replay.{with_after};
 ghost use Rattle.module_laws.specs.Runs.{Runs, scene};
 ghost use Rattle.module_laws.specs.Told.{with_keys, with_native};
-ghost use Rattle.module_laws.specs.inner.Plain.{answers_only, plain_state};
+ghost use Rattle.module_laws.specs.Plain.{answers_only, plain_state};
 ghost use Rattle.mod_samples.specs.Changes.{leaves, with_notes};
 ghost use Rattle.mod_samples.specs.CountParts.{saved_counts};
 ghost use Rattle.mod_samples.specs.Counts.{count_at, counted, is_count, some_counts, with_count, without_word};
 ghost use Rattle.mod_samples.specs.WordCount.{adds, count_after, count_name, count_rows, count_says, counts_at, counts_or_none, counts_shown, drop_notes, drops, gets, is_drop, positive, puts, set_words, sets, to_set, value_of, wordcount, words_at};
 ghost use Rattle.mod_samples.specs.Words.{own};
 ghost use Rattle.mod_samples.specs.inner.States.{count_state};
-ghost use Rattle.mod_samples.specs.inner.CountLaws.{count_lawful, count_reads_back};
+ghost use Rattle.mod_samples.specs.inner.CountLawful.{count_lawful};
+ghost use Rattle.mod_samples.specs.inner.CountLaws.{count_reads_back};
 
 use crate::answers::refuse;
 use crate::count_reading::{counts_in, saved};
@@ -163,6 +164,7 @@ fn write<C: Context<WordCounts>>(
         (counts_shown (with_count word.now n (words_at (C.told ctx.old).seen.keys key.now)))
         (C.told ctx.old)) }
     ensures holds { C.held ctx.new ≡ C.held ctx.old }
+    ensures typed { C.typed ctx.new ≡ C.typed ctx.old }
     ensures err { OnErr result (C.told ctx.new ≡ C.told ctx.old) }
 {
     match ctx.native_mut(alloc, key) {
@@ -184,6 +186,7 @@ fn remove<C: Context<WordCounts>>(
         (counts_shown (without_word word.now (words_at (C.told ctx.old).seen.keys key.now)))
         (C.told ctx.old)) }
     ensures holds { C.held ctx.new ≡ C.held ctx.old }
+    ensures typed { C.typed ctx.new ≡ C.typed ctx.old }
     ensures err { OnErr result (C.told ctx.new ≡ C.told ctx.old) }
 {
     match ctx.native_mut(alloc, key) {
@@ -210,6 +213,7 @@ fn take_out<C: Context<WordCounts>>(
     ensures gone { IfOk result (λ gone. gone ≡ is_none (value_of (without_word word.now
         (words_at (C.told ctx.old).seen.keys key.now)))) }
     ensures holds { C.held ctx.new ≡ C.held ctx.old }
+    ensures typed { C.typed ctx.new ≡ C.typed ctx.old }
     ensures err { OnErr result (C.told ctx.new ≡ C.told ctx.old) }
 {
     if words_in(ctx, key) == 1 {
@@ -232,6 +236,7 @@ fn tell_drop<C: Context<WordCounts>>(
     ensures seen { (C.told ctx.new).seen ≡ (C.told ctx.old).seen }
     ensures added { (C.told ctx.new).added ≡ (C.told ctx.old).added }
     ensures holds { C.held ctx.new ≡ C.held ctx.old }
+    ensures typed { C.typed ctx.new ≡ C.typed ctx.old }
 {
     ctx.notify(alloc, NoteClass::Module, b"wordcount.drop", key)?;
     if gone {
@@ -294,6 +299,7 @@ impl WordCount {
             (scene (plain_state self.old.tally.made self.old.tally.freed) (C.told ctx.old))
             (scene (plain_state self.new.tally.made self.new.tally.freed) (C.told ctx.new)) }
         ensures holds { C.held ctx.new ≡ C.held ctx.old }
+        ensures typed { C.typed ctx.new ≡ C.typed ctx.old }
         ensures made { self.new.tally.made ≤ self.old.tally.made + 1 }
     {
         let counts = Counts::one(alloc, word, n)?;
@@ -328,6 +334,7 @@ impl WordCount {
             (scene (plain_state self.old.tally.made self.old.tally.freed) (C.told ctx.old))
             (scene (plain_state self.new.tally.made self.new.tally.freed) (C.told ctx.new)) }
         ensures holds { C.held ctx.new ≡ C.held ctx.old }
+        ensures typed { C.typed ctx.new ≡ C.typed ctx.old }
         ensures made { self.new.tally.made ≤ self.old.tally.made + 1 }
     {
         match ctx.kind(key) {
@@ -356,6 +363,7 @@ impl WordCount {
             (scene (plain_state self.old.tally.made self.old.tally.freed) (C.told ctx.old))
             (scene (plain_state self.new.tally.made self.new.tally.freed) (C.told ctx.new)) }
         ensures holds { C.held ctx.new ≡ C.held ctx.old }
+        ensures typed { C.typed ctx.new ≡ C.typed ctx.old }
         ensures made { self.new.tally.made ≤ self.old.tally.made + 1 }
     {
         let key = word_at(&effect.words, 1);
@@ -378,6 +386,7 @@ impl WordCount {
             (scene (plain_state self.old.tally.made self.old.tally.freed) (C.told ctx.old))
             (scene (plain_state self.new.tally.made self.new.tally.freed) (C.told ctx.new)) }
         ensures holds { C.held ctx.new ≡ C.held ctx.old }
+        ensures typed { C.typed ctx.new ≡ C.typed ctx.old }
         ensures made { self.new.tally.made ≤ self.old.tally.made + 1 }
     {
         let key = word_at(words, 1);
@@ -407,6 +416,7 @@ impl WordCount {
             (scene (plain_state self.old.tally.made self.old.tally.freed) (C.told ctx.old))
             (scene (plain_state self.new.tally.made self.new.tally.freed) (C.told ctx.new)) }
         ensures holds { C.held ctx.new ≡ C.held ctx.old }
+        ensures typed { C.typed ctx.new ≡ C.typed ctx.old }
         ensures made { self.new.tally.made ≤ self.old.tally.made + 1 }
     {
         let Some(n) = positive(word_at(&own.words, 3)) else {
@@ -433,6 +443,7 @@ impl WordCount {
             (scene (plain_state self.now.tally.made self.now.tally.freed) (C.told ctx.old))
             (scene (plain_state self.now.tally.made self.now.tally.freed) (C.told ctx.new)) }
         ensures holds { C.held ctx.new ≡ C.held ctx.old }
+        ensures typed { C.typed ctx.new ≡ C.typed ctx.old }
     {
         let key = word_at(&own.words, 1);
         let word = word_at(&own.words, 2);
@@ -499,6 +510,8 @@ impl Module for WordCount {
 
     ghost types_are = { refl };
 
+    ghost counted = { λ m. m.tally.counted };
+
     ghost lawful = { count_lawful };
 
     ghost reads_back = { λ w. count_reads_back w.counts w.counted };
@@ -519,6 +532,7 @@ impl Module for WordCount {
             (scene (plain_state self.old.tally.made self.old.tally.freed) (C.told ctx.old))
             (scene (plain_state self.new.tally.made self.new.tally.freed) (C.told ctx.new)) }
         ensures holds { C.held ctx.new ≡ C.held ctx.old }
+        ensures typed { C.typed ctx.new ≡ C.typed ctx.old }
         ensures made { self.new.tally.made ≤ self.old.tally.made + 1 }
     {
         let own = own(alloc, words)?;
@@ -613,6 +627,7 @@ impl Module for WordCount {
             (scene (plain_state self.old.tally.made self.old.tally.freed) (C.told ctx.old))
             (scene (plain_state self.new.tally.made self.new.tally.freed) (C.told ctx.new)) }
         ensures holds { C.held ctx.new ≡ C.held ctx.old }
+        ensures typed { C.typed ctx.new ≡ C.typed ctx.old }
         ensures same { self.new ≡ self.old }
     {
         Ok(Reply::Null)
@@ -629,6 +644,7 @@ impl Module for WordCount {
             (scene (plain_state self.old.tally.made self.old.tally.freed) (C.told ctx.old))
             (scene (plain_state self.new.tally.made self.new.tally.freed) (C.told ctx.new)) }
         ensures holds { C.held ctx.new ≡ C.held ctx.old }
+        ensures typed { C.typed ctx.new ≡ C.typed ctx.old }
         ensures same { self.new ≡ self.old }
     {
         Ok(Reply::Null)
@@ -644,6 +660,7 @@ impl Module for WordCount {
             (scene (plain_state self.old.tally.made self.old.tally.freed) (C.told ctx.old))
             (scene (plain_state self.new.tally.made self.new.tally.freed) (C.told ctx.new)) }
         ensures holds { C.held ctx.new ≡ C.held ctx.old }
+        ensures typed { C.typed ctx.new ≡ C.typed ctx.old }
         ensures same { self.new ≡ self.old }
     {
         Ok(())
@@ -660,6 +677,7 @@ impl Module for WordCount {
             (scene (plain_state self.old.tally.made self.old.tally.freed) (C.told ctx.old))
             (scene (plain_state self.new.tally.made self.new.tally.freed) (C.told ctx.new)) }
         ensures holds { C.held ctx.new ≡ C.held ctx.old }
+        ensures typed { C.typed ctx.new ≡ C.typed ctx.old }
         ensures same { self.new ≡ self.old }
     {
         Ok(Blob::new(alloc))

@@ -1,12 +1,9 @@
 -- What the halves of a set see. Serves the clauses of the calls of Left and Right.
-use Rattle.std.proofs.Common.{◌≡◌, ℕ, List, ◌++◌, Bool, true, false, Option, Some, None, refl, sym, ap, subst, ◌∙◌, if◌then◌else◌}
+use Rattle.std.proofs.Common.{◌≡◌, ℕ, List, ◌++◌, true, Option, Some, None, refl, sym, ap, subst, ◌∙◌}
 use Rattle.std.specs.Prelude.{Result, Ok, Err, IfOk, IfErr, OnErr}
-use Rattle.std.specs.Option.{option_map, option_and_then}
-use Rattle.std.specs.Cmp.Lexicographic.{bytes_decides}
-use Rattle.std.specs.Str.{bytes_eq}
-use Rattle.std.proofs.lemmas.Option.{none-some, same_Some}
-use Rattle.core_types.proofs.KeyLemmas.{entry_at-with_entry, same_keys}
-use Rattle.core_types.specs.Keys.{Entry, Keys, Native, entry_at, deadline_at, value_at, with_changed}
+use Rattle.std.specs.Option.{option_map}
+use Rattle.std.proofs.lemmas.Option.{same_Some}
+use Rattle.core_types.specs.Keys.{Keys, Native, value_at}
 use Rattle.core_types.specs.declared.value.Value.TheVariants as value
 use Rattle.core_types.specs.declared.value.Kind.{Kind}
 use Rattle.core_types.specs.declared.value.Kind.TheVariants as kind
@@ -17,7 +14,7 @@ use Rattle.module_laws.specs.declared.context.KeyFault.TheVariants as key_fault
 use Rattle.module_laws.specs.declared.context.MutFault.{MutFault}
 use Rattle.module_laws.specs.declared.context.MutFault.TheVariants as mut_fault
 use Rattle.module_laws.specs.Sides.{native_of}
-use Rattle.module_laws.specs.Told.{Told, kind_of, kind_at, IsForeign, HasFault, MayFail, fault_of, with_native}
+use Rattle.module_laws.specs.Told.{kind_of, kind_at, IsForeign, HasFault, MayFail, fault_of}
 use Rattle.module_laws.specs.Types.{NativeType, has_type, are_apart}
 use Rattle.module_laws.specs.inner.HalfTypes.{foreign_both, foreign_first, foreign_second}
 
@@ -55,28 +52,6 @@ fails_right types others found (mut_fault.NotOurs other) may = (may.0, foreign_r
 -- where a key has a value, its kind is that value's
 pub kind_found : (keys : Keys) (key : List ℕ) (native : Native) → value_at keys key ≡ Some (value.Native native) → kind_at keys key ≡ Some (kind.Native native.name)
 kind_found keys key native found = ap (option_map kind_of) found
-
-entry_case : (key : List ℕ) (native : Native) (keys : Keys) (found : Option (Entry Native)) → entry_at keys key ≡ found → option_map (λ entry. entry.value) found ≡ Some (value.Native native)
-    → entry_at keys key ≡ Some (record { value = value.Native native; deadline = option_and_then (λ entry. entry.deadline) found })
-entry_case key native keys None at e = absurd (none-some _ e)
-entry_case key native keys (Some entry) at e =
-    at ∙ ap (λ v. Some (record { value = v; deadline = entry.deadline })) (same_Some entry.value (value.Native native) e)
-
-entry_found : (keys : Keys) (key : List ℕ) (native : Native) → value_at keys key ≡ Some (value.Native native) → entry_at keys key ≡ Some (record { value = value.Native native; deadline = deadline_at keys key })
-entry_found keys key native found = entry_case key native keys (entry_at keys key) refl found
-
-stays_case : (b : Bool) (keys : Keys) (key other : List ℕ) (entry : Entry Native) → bytes_eq other key ≡ b → entry_at keys key ≡ Some entry → (if b then Some entry else entry_at keys other) ≡ entry_at keys other
-stays_case true keys key other entry same at = sym at ∙ ap (entry_at keys) (sym ((bytes_decides other key).0 same))
-stays_case false keys key other entry same at = refl
-
--- a value that is changed into itself changes nothing
-pub changed_to_itself : (keys : Keys) (key : List ℕ) (native : Native) → value_at keys key ≡ Some (value.Native native) → with_changed keys key (value.Native native) ≡ keys
-changed_to_itself keys key native found =
-    same_keys _ keys (λ other. entry_at-with_entry keys key _ other ∙ stays_case (bytes_eq other key) keys key other _ refl (entry_found keys key native found))
-
-pub lent_unchanged : (told : Told) (key : List ℕ) (native : Native) → value_at told.seen.keys key ≡ Some (value.Native native) → with_native key native told ≡ told
-lent_unchanged told key native found =
-    ap (λ keys. record told { seen = record told.seen { keys = keys } }) (changed_to_itself told.seen.keys key native found)
 
 -- what is shown where a fact holds whatever comes
 pub on_err : {A E : Type 0} (result : Result A E) (P : Type 0) → P → OnErr result P

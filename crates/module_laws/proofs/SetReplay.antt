@@ -10,7 +10,8 @@ use Rattle.core_types.specs.Keys.{Keys, Native}
 use Rattle.core_types.specs.declared.effect.Effect.{Effect}
 use Rattle.module_laws.specs.Laws.{IsDone, EffectsMakeTheKeys}
 use Rattle.module_laws.specs.Meaning.{Did, Meaning}
-use Rattle.module_laws.specs.Replay.{AreFaithful, command_name, owned_by, owner_of, replayed, replayed_all, replayed_by, row_named}
+use Rattle.module_laws.specs.Named.{command_name, row_named}
+use Rattle.module_laws.specs.Replay.{AreFaithful, owned_by, owner_of, replayed, replayed_all, replayed_by}
 use Rattle.module_laws.specs.Sets.{Modules, listed, has_row, AreApart, AreLawful}
 use Rattle.module_laws.specs.Told.{Builtins, Seen}
 use Rattle.module_laws.specs.Words.{Bytes}

@@ -1,19 +1,21 @@
 -- The laws that a module's meaning obeys.
-use Rattle.std.specs.Prelude.{◌≡◌, ⊤, ℕ, ◌<◌, ◌≤◌, Bool, true, List, [], ◌∷◌, map, length, Option, Some, None, Ok}
+use Rattle.std.specs.Prelude.{◌≡◌, ⊤, ℕ, ◌<◌, ◌≤◌, Bool, true, false, List, [], ◌∷◌, map, length, Option, Some, None, Ok}
 use Rattle.std.specs.Char.{to_ascii_uppercase}
-use Rattle.std.specs.List.{AllByRecursion, IsDistinct, list_all}
-use Rattle.std.specs.Str.{bytes_eq}
+use Rattle.std.specs.List.{AllByRecursion, list_all}
 use Rattle.core_types.specs.CommandRow.{CommandRow, MeetArity}
 use Rattle.core_types.specs.Keys.{Native}
 use Rattle.core_types.specs.Keyspace.{IsString, IsKeyspace}
+use Rattle.core_types.specs.Limits.{IsWithinLimits, IsSmallEffect}
 use Rattle.core_types.specs.declared.note.Note.{Note}
 use Rattle.type_ids.specs.Name.{IsTypeName}
-use Rattle.module_laws.specs.Limits.{IsWithinLimits, IsSmallEffect}
 use Rattle.module_laws.specs.Meaning.{Did, Meaning, type_of}
-use Rattle.module_laws.specs.Replay.{AreFaithful, command_name, has_dot, row_named, replayed_all}
+use Rattle.module_laws.specs.Named.{are_distinct, command_name, has_dot, row_named}
+use Rattle.module_laws.specs.Replay.{AreFaithful, replayed_all}
 use Rattle.module_laws.specs.Told.{Seen}
 use Rattle.module_laws.specs.Types.{NativeType, has_type, is_full, is_kept, is_short}
 use Rattle.module_laws.specs.Words.{Bytes, Words, Saved}
+use Rattle.module_laws.specs.declared.verdict.Verdict.{Verdict}
+use Rattle.module_laws.specs.declared.verdict.Verdict.TheVariants as verdict
 
 -- a command of a module: its name is in upper case and has a dot, and where it writes it names a
 -- key
@@ -24,7 +26,7 @@ pub record IsCommand (row : CommandRow) : Type 0 where
 
 pub record AreCommands (rows : List CommandRow) : Type 0 where
   pub each : AllByRecursion IsCommand rows
-  pub distinct : IsDistinct bytes_eq (map (λ row. row.name) rows)
+  pub distinct : are_distinct (map (λ row. row.name) rows) ≡ true
   pub few : length rows ≤ 200
 
 -- the words of a request that names one of these commands, and are as many as it takes
@@ -33,6 +35,12 @@ pub record IsCall (rows : List CommandRow) (words : Words) : Type 0 where
   pub named : row_named (command_name words) rows ≡ Some row
   pub arity : MeetArity row words
   pub limits : IsWithinLimits words
+
+-- the words name one of these commands, which writes
+pub record IsWriting (rows : List CommandRow) (words : Words) : Type 0 where
+  pub row : CommandRow
+  pub named : row_named (command_name words) rows ≡ Some row
+  pub writes : row.writes ≡ true
 
 -- of values of these types exactly those are allowed that a key may have
 abbrev pub Allows : List NativeType → (Native → Bool) → Type 0
@@ -77,6 +85,40 @@ abbrev pub IsFullOrNone : Meaning → Option Saved → Type 0
 IsFullOrNone meaning None = ⊤
 IsFullOrNone meaning (Some items) = is_full (type_of meaning) items ≡ true
 
+-- words of this command of which `after` makes something, a value or none, where a key has this value
+-- or none
+pub record IsWritten (meaning : Meaning) (row : CommandRow) : Type 0 where
+  pub words : Words
+  pub old : Option Saved
+  pub left : Option Saved
+  pub named : command_name words ≡ row.name
+  pub arity : MeetArity row words
+  pub limits : IsWithinLimits words
+  pub full : IsFullOrNone meaning old
+  pub made : meaning.after old words ≡ Some left
+
+abbrev pub IsWrittenWhere : Bool → Meaning → CommandRow → Type 0
+IsWrittenWhere true meaning row = IsWritten meaning row
+IsWrittenWhere false meaning row = ⊤
+
+-- The law of writing: a command writes exactly where `after` is written for it. `after` makes
+-- something of words of commands that write alone, and of some words of each of these.
+pub record WritesAsAfter (meaning : Meaning) : Type 0 where
+  pub none_else : (old : Option Saved) (words : Words) (left : Option Saved)
+      → meaning.after old words ≡ Some left → IsWriting meaning.rows words
+  pub each : AllByRecursion (λ row. IsWrittenWhere row.writes meaning row) meaning.rows
+
+-- a reply, for which no client waits
+abbrev pub IsReply : Verdict → Type 0
+IsReply (verdict.Say said) = ⊤
+IsReply (verdict.Block timeout job) = ⊥
+
+-- The law of waiting: no client waits for a command that writes.
+abbrev pub AnswersAtOnce : Meaning → Type 0
+AnswersAtOnce meaning = (private : Saved) (seen : Seen) (words : Words)
+    → (call : IsCall meaning.rows words) → call.row.writes ≡ true
+    → IsReply (meaning.says private seen words).answer
+
 -- The law of limits: no value, no byte string and no words beyond what keys and requests may have.
 pub record LimitsAreKept (meaning : Meaning) : Type 0 where
   pub after : (old : Option Saved) (words : Words) (items : Saved) → IsFullOrNone meaning old
@@ -93,4 +135,6 @@ pub record IsLawful (meaning : Meaning) : Type 0 where
   pub versioned : meaning.version ≤ 1023
   pub commands : AreCommands meaning.rows
   pub effects : EffectsMakeTheKeys (meaning ∷ []) meaning
+  pub writes : WritesAsAfter meaning
+  pub at_once : AnswersAtOnce meaning
   pub limits : LimitsAreKept meaning

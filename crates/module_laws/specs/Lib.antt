@@ -1,8 +1,10 @@
 pub mod Words
 pub mod Types
-pub mod Limits
+pub mod Named
 pub mod Told
+pub mod Lending
 pub mod Meaning
+pub mod Plain
 pub mod Replay
 pub mod Laws
 pub mod Runs

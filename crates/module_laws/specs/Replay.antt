@@ -1,7 +1,6 @@
 -- What replaying effects makes of the keys.
-use Rattle.std.specs.Prelude.{◌≡◌, ◌==◌, ℕ, Bool, true, List, [], ◌∷◌, map, find, slice_get, Option, Some, None, if◌then◌else◌}
-use Rattle.std.specs.Char.{to_ascii_uppercase}
-use Rattle.std.specs.List.{AllByRecursion, list_any}
+use Rattle.std.specs.Prelude.{◌≡◌, ℕ, Bool, true, List, [], ◌∷◌, slice_get, Option, Some, None, if◌then◌else◌}
+use Rattle.std.specs.List.{AllByRecursion}
 use Rattle.std.specs.Option.{option_and_then}
 use Rattle.std.specs.Str.{bytes_eq}
 use Rattle.core_types.specs.CommandRow.{CommandRow}
@@ -10,18 +9,11 @@ use Rattle.core_types.specs.Keyspace.{IsKeyspace}
 use Rattle.core_types.specs.declared.effect.Effect.{Effect}
 use Rattle.core_types.specs.declared.value.Value.{Value}
 use Rattle.core_types.specs.declared.value.Value.TheVariants as value
-use Rattle.module_laws.specs.Limits.{IsWithinLimits, IsSmallEffect}
+use Rattle.core_types.specs.Limits.{IsWithinLimits, IsSmallEffect}
 use Rattle.module_laws.specs.Meaning.{Meaning}
-use Rattle.module_laws.specs.Told.{Builtins, Called}
+use Rattle.module_laws.specs.Named.{command_name, has_dot, row_named}
+use Rattle.module_laws.specs.Told.{Builtins, Called, call_of}
 use Rattle.module_laws.specs.Words.{Bytes, Words, Saved}
-
--- the name of a command, as its words begin, in upper case
-abbrev pub command_name : Words → Bytes
-command_name [] = []
-command_name (word ∷ words) = map to_ascii_uppercase word
-
-abbrev pub row_named : Bytes → List CommandRow → Option CommandRow
-row_named name rows = find (λ row. bytes_eq row.name name) rows
 
 -- a module, and the row of one of its commands
 pub record Owned : Type 0 where
@@ -80,11 +72,7 @@ replayed_all builtins meanings keys (effect ∷ effects) =
     option_and_then (λ made. replayed_all builtins meanings made effects)
     (replayed builtins meanings keys effect)
 
--- a dot stands in the name, as in each name of a module's command and in no other
-abbrev pub has_dot : Bytes → Bool
-has_dot name = list_any (λ byte. byte == 46) name
-
--- a call of a built-in command leaves keys that its small effects make again
+-- a call of words leaves keys that its small effects make again
 pub record IsFaithful (builtins : Builtins) (allowed : Native → Bool) (keys : Keys)
     (done : Called) : Type 0 where
   pub replayed : replayed_all builtins [] keys done.effects ≡ Some done.keys
@@ -97,4 +85,4 @@ pub record AreFaithful (builtins : Builtins) : Type 0 where
       → builtins.replays keys effect ≡ None
   pub calls : (allowed : Native → Bool) (keys : Keys) (moment : ℕ) (words : Words)
       → IsKeyspace allowed keys → IsWithinLimits words
-      → IsFaithful builtins allowed keys (builtins.calls keys moment words)
+      → IsFaithful builtins allowed keys (call_of builtins keys moment words)

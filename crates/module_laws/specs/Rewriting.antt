@@ -4,9 +4,9 @@ use Rattle.std.specs.List.{AllByRecursion}
 use Rattle.std.specs.Option.{option_and_then}
 use Rattle.core_types.specs.CommandRow.{CommandRow}
 use Rattle.core_types.specs.declared.effect.Effect.{Effect}
-use Rattle.module_laws.specs.Limits.{IsSmallEffect}
+use Rattle.core_types.specs.Limits.{IsSmallEffect}
 use Rattle.module_laws.specs.Meaning.{Meaning}
-use Rattle.module_laws.specs.Replay.{command_name, row_named}
+use Rattle.module_laws.specs.Named.{command_name, row_named}
 use Rattle.module_laws.specs.Words.{Bytes, Saved}
 
 -- an effect of the module's own on this key

@@ -83,14 +83,16 @@ pub record AreApart (first second : Meaning) : Type 0 where
   pub names : bytes_eq first.name second.name ≡ false
   pub commands : list_any (λ row. has_row second.rows row.name) first.rows ≡ false
 
--- modules that obey the laws, 200 at most, no two of which have a name or a command in common
+-- all commands of the modules
+abbrev pub command_count : Modules → ℕ
+command_count modules =
+    sum_by (λ meaning. length meaning.rows) (listed modules.size modules.meaning_at)
+
+-- modules that obey the laws, 200 at most with 900 commands at most, no two of which have a name or a
+-- command in common
 pub record AreLawful (modules : Modules) : Type 0 where
   pub each : (place : ℕ) → place < modules.size → IsLawful (modules.meaning_at place)
   pub apart : (place other : ℕ) → place < other → other < modules.size
       → AreApart (modules.meaning_at place) (modules.meaning_at other)
   pub few : modules.size ≤ 200
-
--- all commands of the modules
-abbrev pub command_count : Modules → ℕ
-command_count modules =
-    sum_by (λ meaning. length meaning.rows) (listed modules.size modules.meaning_at)
+  pub few_commands : command_count modules ≤ 900

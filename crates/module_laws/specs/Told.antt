@@ -1,16 +1,21 @@
 -- What a context tells of the keys that a module works on.
-use Rattle.std.specs.Prelude.{◌≡◌, ⊤, ℕ, Bool, false, List, [], ◌∷◌, ◌++◌, Option, Some, None, if◌then◌else◌}
+use Rattle.std.specs.Prelude.{◌≡◌, ⊤, ℕ, Bool, true, false, List, [], ◌∷◌, ◌++◌, length, Option, Some, None, if◌then◌else◌}
 use Rattle.std.specs.Option.{option_map}
 use Rattle.std.specs.Str.{bytes_eq}
+use Rattle.core_types.specs.CommandRow.{CommandRow, takes}
 use Rattle.core_types.specs.Keys.{Keys, Native, value_at, with_value, with_changed, without}
+use Rattle.core_types.specs.Refusals.{refused, wrong_arity}
 use Rattle.core_types.specs.declared.effect.Effect.{Effect}
 use Rattle.core_types.specs.declared.note.Note.{Note}
+use Rattle.core_types.specs.declared.refusal.Refusal.TheVariants as refusal
 use Rattle.core_types.specs.declared.reply.Reply.{Reply}
 use Rattle.core_types.specs.declared.value.Value.{Value}
 use Rattle.core_types.specs.declared.value.Value.TheVariants as value
 use Rattle.core_types.specs.declared.value.Kind.{Kind}
 use Rattle.core_types.specs.declared.value.Kind.TheVariants as kind
+use Rattle.module_laws.specs.Named.{command_name, row_named}
 use Rattle.module_laws.specs.Types.{NativeType, has_type}
+use Rattle.module_laws.specs.Words.{Words}
 use Rattle.module_laws.specs.declared.context.KeyFault.{KeyFault}
 use Rattle.module_laws.specs.declared.context.KeyFault.TheVariants as key_fault
 use Rattle.module_laws.specs.declared.context.MutFault.{MutFault}
@@ -18,19 +23,39 @@ use Rattle.module_laws.specs.declared.context.MutFault.TheVariants as mut_fault
 use Rattle.module_laws.specs.declared.context.SetFault.{SetFault}
 use Rattle.module_laws.specs.declared.context.SetFault.TheVariants as set_fault
 
--- what a built-in command gives: its reply, the keys, and the effects and notes that it adds
+-- what a call of words gives: its reply, the keys, and the effects and notes that it adds
 pub record Called : Type 0 where
   pub reply : Reply
   pub keys : Keys
   pub effects : List Effect
   pub notes : List Note
 
--- the built-in commands
+-- The built-in commands on keys. A host tells those that it has: the row of each, and what each
+-- does as it is defined.
 pub record Builtins : Type 0 where
-  -- what a module's call of these words gives, on these keys at this moment
-  pub calls : Keys → ℕ → List (List ℕ) → Called
+  pub rows : List CommandRow
+  -- what words of one of them, as many as it takes, give on these keys at this moment
+  pub does : Keys → ℕ → Words → Called
   -- what replaying an effect that is a built-in command makes of the keys, where it has an answer
   pub replays : Keys → Effect → Option Keys
+
+-- a reply, and nothing else
+abbrev pub says_only : Reply → Keys → Called
+says_only said keys = record { reply = said; keys = keys; effects = []; notes = [] }
+
+-- words of a command of this row, where there is one
+abbrev pub call_by : Builtins → Keys → ℕ → Words → Option CommandRow → Called
+call_by builtins keys moment words None = says_only (refused refusal.NotAKeyCommand) keys
+call_by builtins keys moment words (Some row) =
+    if takes row.arity (length words) then builtins.does keys moment words
+    else says_only (wrong_arity row.name) keys
+
+-- What a module's call of these words gives, on these keys at this moment: a built-in command on
+-- keys does what it is defined to do. For any other command, as a module's, one of a connection or
+-- SAVE, the reply is an error.
+abbrev pub call_of : Builtins → Keys → ℕ → Words → Called
+call_of builtins keys moment words =
+    call_by builtins keys moment words (row_named (command_name words) builtins.rows)
 
 -- what a module sees: the keys, the moment, and what the built-in commands do
 pub record Seen : Type 0 where
@@ -86,6 +111,13 @@ abbrev pub is_typed : List ℕ → Option (Value Native) → Bool
 is_typed name (Some (value.Native native)) = bytes_eq native.name name
 is_typed name _ = false
 
+-- A write over this value leaves the types as they were where the new value has the same type, and
+-- clears that each value has the type that it was put in with where it has another.
+pub record KeepsTypes (written : Native) (there : Option (Value Native))
+    (old new : Bool) : Type 0 where
+  pub same : is_typed written.name there ≡ true → new ≡ old
+  pub other : is_typed written.name there ≡ false → old ≡ true → new ≡ false
+
 -- A key is set to a value. Where it had one of the same type the deadline stays, and else there is
 -- none.
 abbrev pub with_set : List ℕ → Native → Keys → Keys
@@ -107,11 +139,11 @@ abbrev pub with_deleted : List ℕ → Told → Told
 with_deleted key told = with_keys (without told.seen.keys key) told
 
 -- what a call of these words gives
-abbrev pub called : Seen → List (List ℕ) → Called
-called seen words = seen.builtins.calls seen.keys seen.moment words
+abbrev pub called : Seen → Words → Called
+called seen words = call_of seen.builtins seen.keys seen.moment words
 
--- a built-in command was called
-abbrev pub with_called : List (List ℕ) → Told → Told
+-- words were called
+abbrev pub with_called : Words → Told → Told
 with_called words told =
     let done = called told.seen words in
     record (with_keys done.keys told) {

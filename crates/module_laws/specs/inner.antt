@@ -2,4 +2,3 @@ pub mod HalfTypes
 pub mod OneSet
 pub mod TwoSets
 pub mod Rows
-pub mod Plain

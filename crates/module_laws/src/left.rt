@@ -40,6 +40,10 @@ impl<'a, L: Viewed, R: Viewed, C: Context<Either<L, R>>> Context<L> for Left<'a,
 
     ghost held = { λ left. left.ctx.ghost_name ∷ C.held left.ctx.now };
 
+    ghost typed = { λ left. C.typed left.ctx.now };
+
+    ghost key_commands = { λ left. C.key_commands left.ctx.now };
+
     fn kind(&self, key: &[u8]) -> Option<Kind> {
         self.ctx.kind(key)
     }

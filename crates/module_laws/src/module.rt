@@ -1,6 +1,6 @@
 //! A module: a type of values, its commands, and what it does when it is told or asked something.
 
-ghost use Rattle.std.specs.Prelude.{◌≡◌, ◌<◌, ℕ, List, [], ◌∷◌, true, map, Ok, IfOk, IsSome};
+ghost use Rattle.std.specs.Prelude.{◌≡◌, ◌<◌, ◌≤◌, ℕ, List, [], ◌∷◌, true, map, Ok, IfOk, IsSome};
 ghost use Rattle.std.specs.List.{list_all};
 ghost use Rattle.core_types.specs.CommandRow.{row_of_spec};
 ghost use Rattle.core_types.specs.Keyspace.{IsString};
@@ -60,7 +60,8 @@ pub trait Module {
         ensures runs { Runs (type_of meaning)
             (meaning.says (state self.old).private (C.told ctx.old).seen words.now) result
             (scene (state self.old) (C.told ctx.old)) (scene (state self.new) (C.told ctx.new)) }
-        ensures holds { C.held ctx.new ≡ C.held ctx.old };
+        ensures holds { C.held ctx.new ≡ C.held ctx.old }
+        ensures typed { C.typed ctx.new ≡ C.typed ctx.old };
 
     /// Makes of a value, or of none, what an effect of its own makes of it: a value or none. Where
     /// the words make nothing of it, or memory runs out, the old value is handed back.
@@ -114,7 +115,8 @@ pub trait Module {
         ensures runs { Runs (type_of meaning)
             (meaning.replies (state self.old).private (C.told ctx.old).seen payload.now) result
             (scene (state self.old) (C.told ctx.old)) (scene (state self.new) (C.told ctx.new)) }
-        ensures holds { C.held ctx.new ≡ C.held ctx.old };
+        ensures holds { C.held ctx.new ≡ C.held ctx.old }
+        ensures typed { C.typed ctx.new ≡ C.typed ctx.old };
 
     /// The reply to a client that it blocked, when its time is up.
     fn timed_out<C: Context<Self::Value>>(
@@ -126,7 +128,8 @@ pub trait Module {
         ensures runs { Runs (type_of meaning)
             (meaning.times_out (state self.old).private (C.told ctx.old).seen job.now) result
             (scene (state self.old) (C.told ctx.old)) (scene (state self.new) (C.told ctx.new)) }
-        ensures holds { C.held ctx.new ≡ C.held ctx.old };
+        ensures holds { C.held ctx.new ≡ C.held ctx.old }
+        ensures typed { C.typed ctx.new ≡ C.typed ctx.old };
 
     /// A client that it blocked is gone.
     fn gone<C: Context<Self::Value>>(
@@ -138,7 +141,8 @@ pub trait Module {
         ensures runs { Runs (type_of meaning)
             (meaning.goes (state self.old).private (C.told ctx.old).seen job.now) result
             (scene (state self.old) (C.told ctx.old)) (scene (state self.new) (C.told ctx.new)) }
-        ensures holds { C.held ctx.new ≡ C.held ctx.old };
+        ensures holds { C.held ctx.new ≡ C.held ctx.old }
+        ensures typed { C.typed ctx.new ≡ C.typed ctx.old };
 
     /// Is asked something outside a command, while nothing else changes the keys.
     fn section<C: Context<Self::Value>>(
@@ -151,7 +155,8 @@ pub trait Module {
         ensures runs { Runs (type_of meaning)
             (meaning.tells (state self.old).private (C.told ctx.old).seen op.now) result
             (scene (state self.old) (C.told ctx.old)) (scene (state self.new) (C.told ctx.new)) }
-        ensures holds { C.held ctx.new ≡ C.held ctx.old };
+        ensures holds { C.held ctx.new ≡ C.held ctx.old }
+        ensures typed { C.typed ctx.new ≡ C.typed ctx.old };
 
     /// What a worker makes of a job, away from the keys.
     fn work(alloc: Global, job: &Blob) -> Result<Blob, NoMemory>
@@ -173,6 +178,9 @@ pub trait Module {
 
     /// The name, the commands, the effects and the limits are as they have to be.
     ghost lawful: { IsLawful meaning };
+
+    /// It has freed no more values than it has made.
+    ghost counted: { (own : Self) → (state own).freed ≤ (state own).made };
 
     /// What was saved is loaded as it was.
     ghost reads_back: { (value : Self.Value)

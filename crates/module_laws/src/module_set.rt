@@ -1,6 +1,6 @@
 //! A set of modules, each by its place.
 
-ghost use Rattle.std.specs.Prelude.{◌≡◌, ◌<◌, ℕ, true, map, Ok, IfOk, IfSome, IsSome};
+ghost use Rattle.std.specs.Prelude.{◌≡◌, ◌<◌, ◌≤◌, ℕ, true, map, Ok, IfOk, IfSome, IsSome};
 ghost use Rattle.std.specs.List.{list_all};
 ghost use Rattle.std.specs.Option.{option_map};
 ghost use Rattle.core_types.specs.CommandRow.{row_of_spec};
@@ -78,6 +78,7 @@ pub trait ModuleSet {
             Runs (type_of means) (means.says old.private (C.told ctx.old).seen words.now) result
             (scene old (C.told ctx.old)) (scene (state_at self.new place) (C.told ctx.new)) }
         ensures holds { C.held ctx.new ≡ C.held ctx.old }
+        ensures typed { C.typed ctx.new ≡ C.typed ctx.old }
         ensures others { SameBut modules place (state_at self.old) (state_at self.new) };
 
     /// Applies an effect of a module's own to a value of it, or to none.
@@ -169,6 +170,7 @@ pub trait ModuleSet {
             (C.told ctx.old).seen payload.now) result
             (scene old (C.told ctx.old)) (scene (state_at self.new place) (C.told ctx.new)) }
         ensures holds { C.held ctx.new ≡ C.held ctx.old }
+        ensures typed { C.typed ctx.new ≡ C.typed ctx.old }
         ensures others { SameBut modules place (state_at self.old) (state_at self.new) };
 
     /// A module's reply to a client that it blocked, when its time is up.
@@ -184,6 +186,7 @@ pub trait ModuleSet {
             Runs (type_of means) (means.times_out old.private (C.told ctx.old).seen job.now) result
             (scene old (C.told ctx.old)) (scene (state_at self.new place) (C.told ctx.new)) }
         ensures holds { C.held ctx.new ≡ C.held ctx.old }
+        ensures typed { C.typed ctx.new ≡ C.typed ctx.old }
         ensures others { SameBut modules place (state_at self.old) (state_at self.new) };
 
     /// A client that a module blocked is gone.
@@ -199,6 +202,7 @@ pub trait ModuleSet {
             Runs (type_of means) (means.goes old.private (C.told ctx.old).seen job.now) result
             (scene old (C.told ctx.old)) (scene (state_at self.new place) (C.told ctx.new)) }
         ensures holds { C.held ctx.new ≡ C.held ctx.old }
+        ensures typed { C.typed ctx.new ≡ C.typed ctx.old }
         ensures others { SameBut modules place (state_at self.old) (state_at self.new) };
 
     /// Asks a module something outside a command.
@@ -215,6 +219,7 @@ pub trait ModuleSet {
             Runs (type_of means) (means.tells old.private (C.told ctx.old).seen op.now) result
             (scene old (C.told ctx.old)) (scene (state_at self.new place) (C.told ctx.new)) }
         ensures holds { C.held ctx.new ≡ C.held ctx.old }
+        ensures typed { C.typed ctx.new ≡ C.typed ctx.old }
         ensures others { SameBut modules place (state_at self.old) (state_at self.new) };
 
     /// What a worker of a module makes of a job, away from the keys.
@@ -242,6 +247,10 @@ pub trait ModuleSet {
 
     /// In a set that stands each module obeys the laws, and no two share a name or a command.
     ghost lawful: { (set : Self) → AreLawful modules };
+
+    /// No module of a set has freed more values than it has made.
+    ghost counted: { (set : Self) (place : ℕ) → place < modules.size
+        → (state_at set place).freed ≤ (state_at set place).made };
 
     /// What was saved is loaded as it was.
     ghost reads_back: { (value : Self.Value) → (modules.meaning_at (owner_of value)).loads

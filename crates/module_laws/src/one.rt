@@ -45,6 +45,8 @@ impl<M: Module> ModuleSet for One<M> {
 
     ghost lawful = { λ set. one_lawful M.meaning M.lawful };
 
+    ghost counted = { λ set place within. M.counted set.one };
+
     ghost reads_back = { M.reads_back };
 
     fn count() -> u16 {

@@ -40,6 +40,10 @@ impl<'a, L: Viewed, R: Viewed, C: Context<Either<L, R>>> Context<R> for Right<'a
 
     ghost held = { λ right. right.ctx.ghost_name ∷ C.held right.ctx.now };
 
+    ghost typed = { λ right. C.typed right.ctx.now };
+
+    ghost key_commands = { λ right. C.key_commands right.ctx.now };
+
     fn kind(&self, key: &[u8]) -> Option<Kind> {
         self.ctx.kind(key)
     }

@@ -2,7 +2,7 @@
 
 ghost use Rattle.std.specs.Prelude.{◌≡◌, ◌+◌, ◌<◌, ◌≤◌, ℕ, false, IfOk, IfErr, IfSome, IsSome, OnOk};
 ghost use Rattle.module_laws.specs.Applying.{Applies, saved_of};
-ghost use Rattle.module_laws.specs.Sets.{HasPlace, SameBut, by_half, joined, has_name, shares_command};
+ghost use Rattle.module_laws.specs.Sets.{HasPlace, SameBut, by_half, joined, has_name, shares_command, command_count};
 ghost use Rattle.module_laws.specs.Joining.{CanJoin, IsJoinFault};
 ghost use Rattle.module_laws.specs.Sides.{native_of, place_of_half};
 
@@ -31,6 +31,7 @@ pub struct Two<A: ModuleSet, B: ModuleSet> {
     ghost commands: { (place : ℕ) → place < A.modules.size
         → shares_command (A.modules.meaning_at place) B.modules ≡ false },
     ghost few: { A.modules.size + B.modules.size ≤ 200 },
+    ghost few_commands: { command_count A.modules + command_count B.modules ≤ 900 },
 }
 
 impl<A: ModuleSet, B: ModuleSet> Two<A, B> {
@@ -65,7 +66,7 @@ impl<A: ModuleSet, B: ModuleSet> Two<A, B> {
 }
 
 impl<A: ModuleSet, B: ModuleSet> ModuleSet for Two<A, B> {
-    ghost use Rattle.module_laws.specs.inner.TwoSets.{owned_by_half, types_joined, two_lawful, half_reads_back};
+    ghost use Rattle.module_laws.specs.inner.TwoSets.{owned_by_half, types_joined, two_lawful, half_counted, half_reads_back};
 
     type Value = Either<A::Value, B::Value>;
 
@@ -82,7 +83,10 @@ impl<A: ModuleSet, B: ModuleSet> ModuleSet for Two<A, B> {
         A.types_are B.types_are };
 
     ghost lawful = { λ set. two_lawful A.modules B.modules (A.lawful set.a)
-        (B.lawful set.b) set.names set.commands set.few };
+        (B.lawful set.b) set.names set.commands set.few set.few_commands };
+
+    ghost counted = { λ set. half_counted A.modules B.modules (A.state_at set.a) (B.state_at set.b)
+        (A.counted set.a) (B.counted set.b) };
 
     ghost reads_back = { half_reads_back A.modules B.modules A.owner_of B.owner_of
         A.Value.native B.Value.native A.owned A.reads_back B.reads_back };

@@ -9,6 +9,7 @@ use Rattle.std.specs.Str.{bytes_eq}
 use Rattle.std.proofs.lemmas.List.{append-nil}
 use Rattle.std.proofs.lemmas.Option.{none-some}
 use Rattle.byte_text.proofs.Decimals.{decimal-short, u64_of-decimal}
+use Rattle.core_types.specs.CommandRow.{writing}
 use Rattle.core_types.specs.Done.{own_words}
 use Rattle.sequences.specs.Words.{word}
 use Rattle.core_types.specs.Keys.{Entry, Keys, Native, entry_at, value_at, with_changed, with_entry, with_value}
@@ -21,9 +22,10 @@ use Rattle.core_types.specs.declared.stop.Stop.{Stop}
 use Rattle.core_types.specs.declared.stop.Stop.TheVariants as stop
 use Rattle.core_types.specs.declared.value.Value.{Value}
 use Rattle.core_types.specs.declared.value.Value.TheVariants as value
-use Rattle.module_laws.specs.Limits.{IsWithinLimits}
+use Rattle.core_types.specs.Limits.{IsWithinLimits}
 use Rattle.module_laws.specs.Meaning.{Did, type_of}
-use Rattle.module_laws.specs.Replay.{command_name, own_value, with_after}
+use Rattle.module_laws.specs.Named.{command_name}
+use Rattle.module_laws.specs.Replay.{own_value, with_after}
 use Rattle.module_laws.specs.Rewriting.{Builds}
 use Rattle.module_laws.specs.Runs.{Runs, Scene, State, scene}
 use Rattle.module_laws.specs.Told.{Told, called, is_typed, with_called, with_effect, with_keys, with_note, with_put, with_set}
@@ -31,9 +33,9 @@ use Rattle.module_laws.specs.Types.{NativeType}
 use Rattle.module_laws.specs.Words.{Bytes, Words, Saved}
 use Rattle.module_laws.specs.declared.verdict.Verdict.{Verdict}
 use Rattle.module_laws.specs.declared.verdict.Verdict.TheVariants as verdict
-use Rattle.module_tests.specs.Counter.{changed, counter, counter_name, counter_note, found, moves, number_of, on_key, own, saved, shown, stored}
+use Rattle.module_tests.specs.Counter.{changed, counter, counter_name, counter_note, found, moves, number_of, own, saved, shown, stored}
 use Rattle.module_tests.specs.CounterLaws.{stored_kept}
-use Rattle.module_laws.specs.inner.Plain.{answers_only, plain_state}
+use Rattle.module_laws.specs.Plain.{answers_only, plain_state}
 
 pub named : (words : Words) (name : Bytes) → 0 < length words
     → name ≡ map to_ascii_uppercase (word 0 words) → name ≡ command_name words
@@ -196,7 +198,7 @@ rebuilds key n small short = record {
   some = omega arith;
   own = (
     record {
-      row = on_key (codes "COUNTER.SET") 3 true;
+      row = writing (codes "COUNTER.SET") (pos 3);
       named = refl;
       writes = refl;
       keyed = refl;

@@ -8,7 +8,7 @@ use Rattle.std.proofs.lemmas.Bool.Decides.{nat_tests}
 use Rattle.core_types.specs.CommandRow.{row_of_spec}
 use Rattle.core_types.specs.Keyspace.{IsString, longest}
 use Rattle.core_types.specs.declared.command_spec.CommandSpec.{CommandSpec}
-use Rattle.module_laws.specs.Replay.{row_named}
+use Rattle.module_laws.specs.Named.{row_named}
 use Rattle.module_laws.specs.Words.{Bytes, Words}
 
 abbrev pub is_spec : Bytes → CommandSpec → Bool

@@ -1,16 +1,16 @@
 -- The keys of a context that keeps what was put into it in a list. Serves the clauses of the calls
 -- of Context for Shelf.
-use Rattle.std.proofs.Common.{◌≡◌, ℕ, ◌<◌, ◌≤◌, arith, Bool, true, false, List, [], ◌∷◌, ◌++◌, length, get_or, set, map, Option, Some, None, refl, sym, ap, ◌∙◌, if◌then◌else◌}
-use Rattle.std.specs.Prelude.{cond, find, position, nat_lt, reverse, slice_get}
-use Rattle.std.specs.List.{position_or_len}
-use Rattle.std.specs.Option.{option_and_then}
+use Rattle.std.proofs.Common.{◌≡◌, ℕ, ◌<◌, ◌≤◌, arith, Bool, true, false, List, [], ◌∷◌, ◌++◌, length, get_or, set, map, Option, Some, None, refl, sym, ap, ◌∙◌, true≢false, suc, zero, if◌then◌else◌}
+use Rattle.std.specs.Prelude.{◌&&◌, cond, find, position, nat_lt, reverse, slice_get}
+use Rattle.std.specs.List.{list_all, position_or_len}
+use Rattle.std.specs.Option.{option_and_then, option_map}
 use Rattle.std.specs.Ordering.{nat_cmp}
 use Rattle.std.specs.Cmp.Lexicographic.{bytes_decides, slice_cmp}
 use Rattle.std.specs.Str.{bytes_eq}
 use Rattle.std.specs.FinMap.{get-empty}
 use Rattle.std.proofs.lemmas.Bool.Decides.{nat_tests}
 use Rattle.std.proofs.lemmas.List.{map-set, reverse-append, set-get_or}
-use Rattle.std.proofs.lemmas.List.Folds.{find_at, find-set, find_past}
+use Rattle.std.proofs.lemmas.List.Folds.{find_at, find-set, find_past, list_all_at}
 use Rattle.std.proofs.lemmas.List.Quantifiers.{position-Some}
 use Rattle.std.proofs.lemmas.Option.{cond_some, slice_get-get_or, slice_get_past}
 use Rattle.core_types.proofs.KeyLemmas.{entry_at-with_entry, entry_at-without, same_keys}
@@ -18,9 +18,29 @@ use Rattle.core_types.specs.Keys.{Entry, Keys, Native, deadline_at, entry_at, va
 use Rattle.core_types.specs.declared.value.Value.TheVariants as value
 use Rattle.core_types.specs.declared.effect.Effect.{Effect}
 use Rattle.core_types.specs.declared.note.Note.{Note}
-use Rattle.module_laws.specs.Told.{is_typed, with_deleted, with_keys, with_put, with_set}
+use Rattle.module_laws.specs.Told.{KeepsTypes, is_typed, with_deleted, with_keys, with_put, with_set}
 use Rattle.module_laws.specs.Words.{Bytes}
-use Rattle.module_tests.specs.Shelf.{Kept, has_key, keys_of, kept_entry, shelf_told}
+use Rattle.module_tests.specs.Shelf.{Kept, has_key, is_as_put, keys_of, kept_entry, shelf_told}
+
+module _ {X : Type 0} (t : X → Bool) where
+  -- all pass as before where what passes, or fails, at a place does as before
+  all_same : (xs : List X) (place : ℕ) (d y : X) → t y ≡ t (get_or xs place d) → list_all t (set xs place y) ≡ list_all t xs
+  all_same [] place d y same = refl
+  all_same (x ∷ xs) zero d y same = ap (λ b. b && list_all t xs) same
+  all_same (x ∷ xs) (suc place) d y same = ap (λ b. t x && b) (all_same xs place d y same)
+
+  and_false : (a b : Bool) → b ≡ false → (a && b) ≡ false
+  and_false true b fails = fails
+  and_false false b fails = refl
+
+  one_fails : (xs : List X) (place : ℕ) (y : X) → place < length xs → t y ≡ false → list_all t (set xs place y) ≡ false
+  one_fails [] place y within fails = absurd (omega (arith, within))
+  one_fails (x ∷ xs) zero y within fails = ap (λ b. b && list_all t xs) fails
+  one_fails (x ∷ xs) (suc place) y within fails = and_false (t x) _ (one_fails xs place y (omega (arith, within)) fails)
+
+  passes_case : (xs : List X) (place : ℕ) (d : X) (b : Bool) → place < length xs → list_all t xs ≡ true → t (get_or xs place d) ≡ b → b ≡ true
+  passes_case xs place d true within all is = refl
+  passes_case xs place d false within all is = absurd (true≢false (sym all ∙ list_all_at t xs place d within is))
 
 live_case : (live : Bool) (key : Bytes) (native : Native) (keys : Keys) (other : Bytes)
     → entry_at (if live then with_value keys key (value.Native native) else without keys key) other
@@ -118,6 +138,36 @@ module _ (slots : List Kept) (key : Bytes) (place : ℕ) (newest : position (has
       ∙ sym (if_found (bytes_eq other key) kept_entry y (find (has_key other) slots))
       ∙ ap (λ (o : Option (Entry Native)). if bytes_eq other key then kept_entry y else o) (sym (entry_found slots other))
 
+  value_here : (get_or slots place d).live ≡ true → value_at (keys_of slots) key ≡ Some (value.Native (get_or slots place d).native)
+  value_here live = ap (option_map (λ entry. entry.value)) (shown live)
+
+  as_put : (y : Kept) → y.name ≡ (get_or slots place d).name → (get_or slots place d).native.name ≡ y.native.name → is_as_put y ≡ is_as_put (get_or slots place d)
+  as_put y same typed =
+      ap (λ n. bytes_eq n y.name) (sym typed) ∙ ap (bytes_eq (get_or slots place d).native.name) same
+
+  foreign_case : (y : Kept) (b : Bool) → y.name ≡ (get_or slots place d).name → bytes_eq (get_or slots place d).native.name y.native.name ≡ false → is_as_put (get_or slots place d) ≡ true → is_as_put y ≡ b → b ≡ false
+  foreign_case y false same foreign was is = refl
+  foreign_case y true same foreign was is =
+      let now : y.native.name ≡ y.name = (bytes_decides y.native.name y.name).0 is in
+      let then_ : (get_or slots place d).native.name ≡ (get_or slots place d).name = (bytes_decides _ _).0 was in
+      absurd (true≢false (sym ((bytes_decides _ y.native.name).1 (then_ ∙ sym same ∙ sym now)) ∙ foreign))
+
+  -- a value of the same type that is written at the place leaves each as it was put, and one of another
+  -- does not
+  pub types_kept : (y : Kept) → y.name ≡ (get_or slots place d).name → (get_or slots place d).live ≡ true
+      → KeepsTypes y.native (value_at (keys_of slots) key) (list_all is_as_put slots) (list_all is_as_put (set slots place y))
+  types_kept y same live = record {
+    same = λ typed. all_same is_as_put slots place d y
+        (as_put y same ((bytes_decides _ y.native.name).0 (sym (ap (is_typed y.native.name) (value_here live)) ∙ typed)));
+    other = λ foreign all. one_fails is_as_put slots place y within
+        (foreign_case y _ same (sym (ap (is_typed y.native.name) (value_here live)) ∙ foreign)
+        (passes_case is_as_put slots place d _ within all refl) refl);
+  }
+
+  -- one that is marked as gone stays as it was put
+  pub types_gone : (y : Kept) → y.name ≡ (get_or slots place d).name → y.native ≡ (get_or slots place d).native → list_all is_as_put (set slots place y) ≡ list_all is_as_put slots
+  types_gone y same native = all_same is_as_put slots place d y (as_put y same (ap (λ n. n.name) (sym native)))
+
   -- a value that is changed at the place is changed under the key
   pub put_here : (y : Kept) → y.key ≡ key → y.live ≡ true → keys_of (set slots place y) ≡ with_changed (keys_of slots) key (value.Native y.native)
   put_here y same live =
@@ -132,6 +182,12 @@ module _ (slots : List Kept) (key : Bytes) (place : ℕ) (newest : position (has
       same_keys _ _ (λ other. updated y same other
       ∙ ap (λ (b : Bool). if bytes_eq other key then (if b then Some (record { value = value.Native y.native; deadline = None }) else None) else entry_at (keys_of slots) other) gone
       ∙ sym (entry_at-without (keys_of slots) key other))
+
+-- a value that was put in has the type that it was put in with
+pub types_put : (slots more : List Kept) (key : Bytes) (native : Native) → more ≡ record { key = key; name = native.name; native = native; live = true } ∷ slots
+    → list_all is_as_put more ≡ list_all is_as_put slots
+types_put slots more key native is =
+    ap (list_all is_as_put) is ∙ ap (λ b. b && list_all is_as_put slots) ((bytes_decides native.name native.name).1 refl)
 
 absent_case : (b : Bool) (keys : Keys) (key other : Bytes) → bytes_eq other key ≡ b → entry_at keys key ≡ None → (if b then None else entry_at keys other) ≡ entry_at keys other
 absent_case true keys key other same none = sym none ∙ ap (entry_at keys) (sym ((bytes_decides other key).0 same))

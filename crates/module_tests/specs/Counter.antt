@@ -1,11 +1,11 @@
 -- A counter: a number that a key has. Commands set it, raise it by one, drop it, read it, and move
 -- it to another key.
-use Rattle.std.specs.Prelude.{◌+◌, ◌-◌, ◌^◌, ℕ, suc, zero, pos, min, Bool, true, false, List, [], ◌∷◌, drop, Option, Some, None, Result, Ok, Err, if◌then◌else◌, codes}
+use Rattle.std.specs.Prelude.{◌+◌, ◌-◌, ◌^◌, ℕ, suc, zero, pos, min, List, [], ◌∷◌, drop, Option, Some, None, Result, Ok, Err, if◌then◌else◌, codes}
 use Rattle.std.specs.Fmt.{decimal}
 use Rattle.std.specs.Option.{option_and_then, option_map}
 use Rattle.std.specs.Str.{bytes_eq}
 use Rattle.byte_text.specs.Number.{u64_of}
-use Rattle.core_types.specs.CommandRow.{CommandRow}
+use Rattle.core_types.specs.CommandRow.{CommandRow, reading, writing}
 use Rattle.sequences.specs.Words.{word}
 use Rattle.core_types.specs.Keys.{Keys, Native, value_at}
 use Rattle.core_types.specs.declared.load_fault.LoadFault.{LoadFault}
@@ -16,12 +16,13 @@ use Rattle.core_types.specs.declared.reply.Reply.{Reply}
 use Rattle.core_types.specs.declared.reply.Reply.TheVariants as reply
 use Rattle.core_types.specs.declared.tagged.Tagged.TheVariants as tagged
 use Rattle.module_laws.specs.Meaning.{Did, Meaning}
-use Rattle.module_laws.specs.Replay.{command_name, own_value, with_after}
+use Rattle.module_laws.specs.Named.{command_name}
+use Rattle.module_laws.specs.Replay.{own_value, with_after}
 use Rattle.module_laws.specs.Told.{Seen, called}
 use Rattle.module_laws.specs.Words.{Bytes, Words, Saved}
 use Rattle.module_laws.specs.declared.verdict.Verdict.{Verdict}
 use Rattle.module_laws.specs.declared.verdict.Verdict.TheVariants as verdict
-use Rattle.module_laws.specs.inner.Plain.{answers_only}
+use Rattle.module_laws.specs.Plain.{answers_only, silent}
 
 abbrev pub counter_name : Bytes
 counter_name = codes "upcounter"
@@ -34,15 +35,10 @@ saved n = tagged.Number n ∷ []
 abbrev pub shown : ℕ → Native
 shown n = record { name = counter_name; items = saved n }
 
--- a command on a key
-abbrev pub on_key : Bytes → ℕ → Bool → CommandRow
-on_key name count writes =
-    record { name = name; arity = pos count; writes = writes; key = 1 }
-
 abbrev pub counter_rows : List CommandRow
-counter_rows = on_key (codes "COUNTER.SET") 3 true ∷ on_key (codes "COUNTER.RAISE") 2 true
-    ∷ on_key (codes "COUNTER.DROP") 2 true ∷ on_key (codes "COUNTER.GET") 2 false
-    ∷ on_key (codes "COUNTER.MOVE") 3 false ∷ []
+counter_rows = writing (codes "COUNTER.SET") (pos 3) ∷ writing (codes "COUNTER.RAISE") (pos 2)
+    ∷ writing (codes "COUNTER.DROP") (pos 2) ∷ reading (codes "COUNTER.GET") (pos 2)
+    ∷ reading (codes "COUNTER.MOVE") (pos 3) ∷ []
 
 -- the number that was saved, where one was
 abbrev pub number_of : Option Saved → Option ℕ
@@ -74,9 +70,7 @@ counter_note words = record { class = class.Module; name = codes "counter"; key 
 -- was made nothing changes.
 abbrev pub changed : Seen → Words → Option (Option ℕ) → Did Verdict
 changed seen words None = answers_only (verdict.Say (reply.Int (pos 0))) seen
-changed seen words (Some made) = record {
-  answer = verdict.Say (reply.Int (pos 1));
-  private = [];
+changed seen words (Some made) = record (answers_only (verdict.Say (reply.Int (pos 1))) seen) {
   keys = with_after counter_name (word 1 words) seen.keys (option_map saved made);
   effects = record { words = words } ∷ [];
   notes = counter_note words ∷ [];
@@ -84,12 +78,8 @@ changed seen words (Some made) = record {
 
 -- the key is left with a number or none, and nothing else is done
 abbrev pub stored : Seen → Bytes → Option ℕ → Did (Unit {0})
-stored seen key made = record {
-  answer = tt;
-  private = [];
+stored seen key made = record (answers_only tt seen) {
   keys = with_after counter_name key seen.keys (option_map saved made);
-  effects = [];
-  notes = [];
 }
 
 abbrev pub changes : Seen → Words → Did Verdict
@@ -105,9 +95,7 @@ number_reply _ = reply.Null
 abbrev pub moves : Seen → Words → Did Verdict
 moves seen words =
     let done = called seen (codes "RENAME" ∷ drop 1 words) in
-    record {
-      answer = verdict.Say done.reply;
-      private = [];
+    record (answers_only (verdict.Say done.reply) seen) {
       keys = done.keys;
       effects = done.effects;
       notes = done.notes;
@@ -132,18 +120,8 @@ counter_loads (tagged.Number n ∷ []) zero = Ok (saved n)
 counter_loads (tagged.Number n ∷ item ∷ items) zero = Err (load_fault.Shape 1)
 
 abbrev pub counter : Meaning
-counter = record {
-  name = counter_name;
-  version = 0;
-  rows = counter_rows;
-  is_empty = λ items. false;
+counter = record (silent counter_name 0 counter_rows) {
   says = λ private seen words. counter_says seen (own words);
-  replies = λ private seen payload. answers_only reply.Null seen;
-  times_out = λ private seen job. answers_only reply.Null seen;
-  goes = λ private seen job. answers_only tt seen;
-  tells = λ private seen op. answers_only [] seen;
-  hears = λ private note. record { private = []; chores = [] };
   after = counter_after;
   loads = counter_loads;
-  works = λ job. job;
 }

@@ -1,10 +1,10 @@
 -- The least module: one command, which answers 1 and changes nothing, and no value that a key may
 -- have.
-use Rattle.std.specs.Prelude.{◌≡◌, ℕ, suc, zero, pos, true, false, [], ◌∷◌, None, Result, Ok, Err, refl, codes}
+use Rattle.std.specs.Prelude.{◌≡◌, ℕ, suc, zero, pos, true, false, [], ◌∷◌, Result, Ok, Err, refl, codes}
 use Rattle.std.proofs.Common.{sym, ap, true≢false, arith}
 use Rattle.std.specs.Result.{is_err, result_unwrap_or}
 use Rattle.std.specs.Cmp.Lexicographic.{bytes_decides}
-use Rattle.std.specs.List.{IsDistinct, list_all}
+use Rattle.std.specs.List.{list_all}
 use Rattle.std.proofs.lemmas.Option.{none-some}
 use Rattle.core_types.specs.CommandRow.{CommandRow}
 use Rattle.core_types.specs.declared.load_fault.LoadFault.{LoadFault}
@@ -16,7 +16,7 @@ use Rattle.module_laws.specs.Meaning.{Meaning}
 use Rattle.module_laws.specs.Types.{is_short}
 use Rattle.module_laws.specs.Words.{Bytes, Saved}
 use Rattle.module_laws.specs.declared.verdict.Verdict.TheVariants as verdict
-use Rattle.module_laws.specs.inner.Plain.{answers_only}
+use Rattle.module_laws.specs.Plain.{answers_only, silent}
 
 abbrev pub least_loads : Saved → ℕ → Result Saved LoadFault
 least_loads items (suc version) = Err (load_fault.Version (suc version))
@@ -30,20 +30,10 @@ abbrev pub ping : CommandRow
 ping = record { name = codes "LEAST.PING"; arity = pos 1; writes = false; key = 0 }
 
 abbrev pub least : Meaning
-least = record {
-  name = least_name;
-  version = 0;
-  rows = ping ∷ [];
+least = record (silent least_name 0 (ping ∷ [])) {
   is_empty = λ items. true;
   says = λ private seen words. answers_only (verdict.Say (reply.Int (pos 1))) seen;
-  replies = λ private seen payload. answers_only reply.Null seen;
-  times_out = λ private seen job. answers_only reply.Null seen;
-  goes = λ private seen job. answers_only tt seen;
-  tells = λ private seen op. answers_only [] seen;
-  hears = λ private note. record { private = []; chores = [] };
-  after = λ old words. None;
   loads = least_loads;
-  works = λ job. job;
 }
 
 err-ok : {why : LoadFault} {value : Saved} → Err why ≡ Ok value → ⊥
@@ -62,7 +52,6 @@ loads_short [] zero value loads = ok_short value loads
 loads_short (item ∷ items) zero value loads = absurd (err-ok loads)
 
 pub least_lawful : IsLawful least
-unfolding IsDistinct
 least_lawful = record {
   named = named-found least_name refl refl
       (λ same. true≢false (sym ((bytes_decides least_name _).1 same)));
@@ -77,7 +66,7 @@ least_lawful = record {
       },
       tt,
     );
-    distinct = (tt, tt);
+    distinct = refl;
     few = omega arith;
   };
   effects = record {
@@ -92,6 +81,11 @@ least_lawful = record {
     tells = λ allowed private seen op sound short.
         record { replayed = refl; small = tt; kept = sound.keys };
   };
+  writes = record {
+    none_else = λ old words left makes. absurd (none-some left makes);
+    each = (tt, tt);
+  };
+  at_once = λ private seen words call writes. tt;
   limits = record {
     after = λ old words items full limits makes. absurd (none-some _ makes);
     loads = λ items version value short loads. loads_short items version value loads;

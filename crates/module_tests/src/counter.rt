@@ -5,13 +5,13 @@ ghost use Rattle.std.specs.Char.{to_ascii_uppercase};
 ghost use Rattle.sequences.specs.Words.{word};
 ghost use Rattle.core_types.specs.Keyspace.{IsString};
 ghost use Rattle.module_laws.specs.Applying.{Applies, saved_of};
-ghost use Rattle.module_laws.specs.Limits.{IsSmallEffect};
+ghost use Rattle.core_types.specs.Limits.{IsSmallEffect};
 ghost use Rattle.module_laws.specs.Meaning.{type_of};
 ghost use Rattle.module_laws.specs.Runs.{Runs, scene};
 ghost use Rattle.module_laws.specs.Told.{with_native};
 ghost use Rattle.module_tests.specs.Counter.{changes, counter, counter_after, counter_name, found, makes, number_reply, own, shown, stored};
 ghost use Rattle.module_tests.specs.CounterLaws.{counter_lawful};
-ghost use Rattle.module_laws.specs.inner.Plain.{plain_state};
+ghost use Rattle.module_laws.specs.Plain.{plain_state};
 
 use byte_text::{read_u64, u64_text};
 use core_types::{
@@ -172,6 +172,7 @@ fn write<C: Context<Counter>>(
     ensures ok { OnOk result
         (C.told ctx.new ≡ with_native key.now (shown number) (C.told ctx.old)) }
     ensures holds { C.held ctx.new ≡ C.held ctx.old }
+    ensures typed { C.typed ctx.new ≡ C.typed ctx.old }
     ensures err { OnErr result (C.told ctx.new ≡ C.told ctx.old) }
 {
     match ctx.native_mut(alloc, key) {
@@ -221,6 +222,7 @@ impl Counters {
             (scene (plain_state self.old.made self.old.freed) (C.told ctx.old))
             (scene (plain_state self.new.made self.new.freed) (C.told ctx.new)) }
         ensures holds { C.held ctx.new ≡ C.held ctx.old }
+        ensures typed { C.typed ctx.new ≡ C.typed ctx.old }
     {
         match (old, made) {
             (_, None) => {
@@ -250,6 +252,7 @@ impl Counters {
             (scene (plain_state self.old.made self.old.freed) (C.told ctx.old))
             (scene (plain_state self.new.made self.new.freed) (C.told ctx.new)) }
         ensures holds { C.held ctx.new ≡ C.held ctx.old }
+        ensures typed { C.typed ctx.new ≡ C.typed ctx.old }
     {
         let value = self.make(number)?;
         match ctx.set_native(alloc, key, value) {
@@ -276,6 +279,7 @@ impl Counters {
             (scene (plain_state self.old.made self.old.freed) (C.told ctx.old))
             (scene (plain_state self.new.made self.new.freed) (C.told ctx.new)) }
         ensures holds { C.held ctx.new ≡ C.held ctx.old }
+        ensures typed { C.typed ctx.new ≡ C.typed ctx.old }
     {
         let key = word_at(&own.words, 1);
         let Some(old) = find(ctx, key) else {
@@ -311,6 +315,8 @@ impl Module for Counters {
     ghost types_are = { refl };
 
     ghost lawful = { counter_lawful };
+
+    ghost counted = { λ c. c.counted };
 
     ghost reads_back = { λ c. refl };
 

@@ -1,10 +1,10 @@
 //! The least module that meets the laws.
 
-ghost use Rattle.std.specs.Prelude.{◌≡◌, refl, [], ◌∷◌, None};
+ghost use Rattle.std.specs.Prelude.{◌≡◌, ◌≤◌, refl, [], ◌∷◌, None};
 ghost use Rattle.module_laws.specs.Applying.{Applies};
 ghost use Rattle.module_laws.specs.Meaning.{type_of};
 ghost use Rattle.module_tests.specs.Least.{least, least_lawful, least_name};
-ghost use Rattle.module_laws.specs.inner.Plain.{plain_state};
+ghost use Rattle.module_laws.specs.Plain.{plain_state};
 
 use core_types::{
     Args, Blob, Chores, CommandSpec, Effects, Items, LoadFault, NoMemory, Note, Reply, Stop,
@@ -28,13 +28,12 @@ impl Viewed for Mark {
 pub struct Least {
     made: u64,
     freed: u64,
+    ghost counted: { freed ≤ made },
 }
 
 impl Least {
     /// A module that has made no values.
-    pub fn new() -> Least
-        ensures none { result ≡ record { made = 0; freed = 0 } }
-    {
+    pub fn new() -> Least {
         Least { made: 0, freed: 0 }
     }
 }
@@ -66,6 +65,8 @@ impl Module for Least {
     ghost types_are = { refl };
 
     ghost lawful = { least_lawful };
+
+    ghost counted = { λ l. l.counted };
 
     ghost reads_back = { λ mark. refl };
 

@@ -1,8 +1,9 @@
 //! A context over a vector, which knows no built-in command.
 
-ghost use Rattle.std.specs.Prelude.{◌≡◌, ◌<◌, ◌≤◌, [], position, vec_len, MatchOption, None};
+ghost use Rattle.std.specs.Prelude.{◌≡◌, ◌<◌, ◌≤◌, refl, [], position, vec_len, MatchOption, None};
+ghost use Rattle.std.specs.List.{list_all};
 ghost use Rattle.core_types.specs.Keys.{entry_at};
-ghost use Rattle.module_tests.specs.Shelf.{IsAt, has_key, keys_of, shelf_told};
+ghost use Rattle.module_tests.specs.Shelf.{IsAt, has_key, is_as_put, keys_of, shelf_told};
 
 use crate::slot::Slot;
 use core_types::{Args, Blob, Effect, Effects, Kind, NoMemory, Note, NoteClass, Notes, Reply};
@@ -90,6 +91,10 @@ impl<M: ModuleSet> Context<M::Value> for Shelf<M> {
     ghost told = { λ shelf. shelf_told shelf.slots.items shelf.effects shelf.notes shelf.moment };
 
     ghost held = { λ shelf. [] };
+
+    ghost typed = { λ shelf. list_all is_as_put shelf.slots.items };
+
+    ghost key_commands = { λ shelf. refl };
 
     fn kind(&self, key: &[u8]) -> Option<Kind> {
         match self.place(key) {

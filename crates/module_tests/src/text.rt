@@ -1,6 +1,6 @@
 //! A context with one key, which has a string, and without memory.
 
-ghost use Rattle.std.specs.Prelude.{◌≡◌, [], ◌∷◌, refl};
+ghost use Rattle.std.specs.Prelude.{◌≡◌, true, [], ◌∷◌, refl};
 ghost use Rattle.module_laws.specs.Told.{kind_at};
 ghost use Rattle.module_tests.specs.Texts.{mark, mark_type, text_keys, text_kind, text_told};
 
@@ -37,6 +37,10 @@ impl Context<Mark> for Text {
     ghost told = { λ text. text_told text.moment };
 
     ghost held = { λ text. [] };
+
+    ghost typed = { λ text. true };
+
+    ghost key_commands = { λ text. refl };
 
     fn kind(&self, key: &[u8]) -> Option<Kind> {
         if is_text(key) { Some(Kind::Str) } else { None }

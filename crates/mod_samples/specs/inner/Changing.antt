@@ -11,15 +11,22 @@ use Rattle.core_types.specs.declared.note.Note.{Note}
 use Rattle.core_types.specs.declared.reply.Reply.{Reply}
 use Rattle.core_types.specs.declared.value.Value.{Value}
 use Rattle.core_types.specs.declared.value.Value.TheVariants as value
-use Rattle.module_laws.specs.Laws.{IsDone, IsFullOrNone, IsSound}
-use Rattle.module_laws.specs.Limits.{IsWithinLimits}
-use Rattle.module_laws.specs.Meaning.{Meaning, type_of}
+use Rattle.module_laws.specs.Laws.{IsDone, IsFullOrNone, IsReply, IsSound}
+use Rattle.core_types.specs.Limits.{IsWithinLimits}
+use Rattle.module_laws.specs.Meaning.{Did, Meaning, type_of}
 use Rattle.module_laws.specs.Replay.{own_value, replayed, replayed_on, with_after}
 use Rattle.module_laws.specs.Told.{Seen}
 use Rattle.module_laws.specs.Types.{is_full, is_kept}
 use Rattle.module_laws.specs.Words.{Bytes, Words, Saved}
-use Rattle.module_laws.specs.inner.Plain.{answers_only}
+use Rattle.module_laws.specs.Plain.{answers_with}
+use Rattle.module_laws.specs.declared.verdict.Verdict.{Verdict}
 use Rattle.mod_samples.specs.Changes.{changes}
+
+-- a choice of two replies is a reply
+pub reply_either : (b : Bool) (first second : Did Verdict) → IsReply first.answer
+    → IsReply second.answer → IsReply (if b then first else second).answer
+reply_either true first second is other = is
+reply_either false first second is other = other
 
 -- a full value of a module is one that a key may have
 pub kept_full : (meaning : Meaning) (items : Saved) → bytes_eq meaning.name meaning.name ≡ true
@@ -31,8 +38,8 @@ kept_full meaning items itself full =
 module _ (meaning : Meaning) (itself : bytes_eq meaning.name meaning.name ≡ true)
     (allowed : Native → Bool) (seen : Seen)
     (sound : IsSound (type_of meaning ∷ []) allowed seen) where
-  pub unchanged : {A : Type 0} (answer : A)
-      → IsDone (meaning ∷ []) allowed seen (answers_only answer seen)
+  pub unchanged : {A : Type 0} {private : Saved} (answer : A)
+      → IsDone (meaning ∷ []) allowed seen (answers_with private answer seen)
   unchanged answer = record { replayed = refl; small = tt; kept = sound.keys }
 
   -- a key that is left with a full value or none leaves a keyspace

@@ -5,7 +5,7 @@ use Rattle.std.specs.Char.{to_ascii_uppercase}
 use Rattle.std.specs.Cmp.Lexicographic.{bytes_decides}
 use Rattle.std.specs.Fmt.{decimal}
 use Rattle.std.specs.Int.{w64}
-use Rattle.std.specs.List.{AllByRecursion, IsDistinct, list_all}
+use Rattle.std.specs.List.{AllByRecursion, list_all}
 use Rattle.std.specs.Option.{option_map, unwrap_or}
 use Rattle.std.specs.Ordering.{match_ordering}
 use Rattle.std.specs.Str.{bytes_eq}
@@ -27,9 +27,10 @@ use Rattle.core_types.specs.declared.reply.Reply.{Reply}
 use Rattle.core_types.specs.declared.reply.Reply.TheVariants as reply
 use Rattle.type_ids.proofs.Names.{named-found}
 use Rattle.module_laws.specs.Laws.{AreCommands, IsCall, IsDone, IsFullOrNone, IsLawful, IsSound}
-use Rattle.module_laws.specs.Limits.{IsWithinLimits}
+use Rattle.core_types.specs.Limits.{IsWithinLimits}
 use Rattle.module_laws.specs.Meaning.{type_of}
-use Rattle.module_laws.specs.Replay.{command_name, own_value, row_named}
+use Rattle.module_laws.specs.Named.{command_name, row_named}
+use Rattle.module_laws.specs.Replay.{own_value}
 use Rattle.module_laws.specs.Told.{Seen}
 use Rattle.module_laws.specs.Types.{is_full, is_short}
 use Rattle.module_laws.specs.Words.{Bytes, Words, Saved}
@@ -48,8 +49,7 @@ pub count_reads_back : (cs : List Counted) → some_counts cs ≡ true
     → count_loads (saved_counts cs) 0 ≡ Ok (saved_counts cs)
 count_reads_back cs some = ap counts_again (counts_read_back cs some)
 
-count_commands : AreCommands count_rows
-unfolding IsDistinct
+pub count_commands : AreCommands count_rows
 count_commands = record {
   each = (
     record { upper = refl; dotted = refl; keyed = λ is. omega arith },
@@ -61,7 +61,7 @@ count_commands = record {
       ),
     ),
   );
-  distinct = ((refl, (refl, (refl, tt))), ((refl, (refl, tt)), ((refl, tt), (tt, tt))));
+  distinct = refl;
   few = omega arith;
 }
 
@@ -312,7 +312,7 @@ module _ (allowed : Native → Bool) (seen : Seen)
   says_case words limits false is four three =
       rw is (set_case words limits (bytes_eq (word 0 words) set_name) refl four three)
 
-  says_done : (words : Words) → IsCall count_rows words
+  pub says_done : (words : Words) → IsCall count_rows words
       → IsDone (wordcount ∷ []) allowed seen (count_says seen (own words))
   unfolding word
   says_done [] call = absurd (omega (arith, call.limits.some))
@@ -342,12 +342,12 @@ edits_case None true wd cs new wd_short short is =
     dropped_short wd cs new (count_at wd cs) short is
 edits_case None false wd cs new wd_short short is = absurd (none-some new is)
 
-edits_short : (cs new : List Counted) (words : Words) → IsWithinLimits words
+pub edits_short : (cs new : List Counted) (words : Words) → IsWithinLimits words
     → short_words cs ≡ true → edits cs words ≡ Some new → short_words new ≡ true
 edits_short cs new words limits short is =
     edits_case (to_set words) (is_drop words) (word 2 words) cs new (word_short 2 words limits.each) short is
 
-after_case : (items : Saved) (new : Option (List Counted))
+pub after_case : (items : Saved) (new : Option (List Counted))
     → ((cs : List Counted) → new ≡ Some cs → short_words cs ≡ true)
     → option_map value_of new ≡ Some (Some items) → is_full (type_of wordcount) items ≡ true
 after_case items None short is = absurd (none-some (Some items) is)
@@ -362,29 +362,8 @@ again_case (Ok cs) value short is =
     subst (λ v. list_all is_short v ≡ true) (same_Ok (saved_counts cs) value is)
     (parts_short cs ∙ short cs refl)
 
-loads_short : (items : Saved) (version : ℕ) (value : Saved) → list_all is_short items ≡ true
+pub loads_short : (items : Saved) (version : ℕ) (value : Saved) → list_all is_short items ≡ true
     → count_loads items version ≡ Ok value → list_all is_short value ≡ true
 loads_short items (suc version) value short is = absurd (err-ok is)
 loads_short items zero value short is =
     again_case (counts_in items) value (λ cs read. read_short items cs read short) is
-
-pub count_lawful : IsLawful wordcount
-count_lawful = record {
-  named = named-found count_name refl refl
-      (λ same. true≢false (sym ((bytes_decides count_name _).1 same)));
-  versioned = omega arith;
-  commands = count_commands;
-  effects = record {
-    says = λ allowed private seen words sound call. says_done allowed seen sound words call;
-    replies = λ allowed private seen payload sound. unchanged wordcount refl allowed seen sound _;
-    times_out = λ allowed private seen job sound. unchanged wordcount refl allowed seen sound _;
-    goes = λ allowed private seen job sound. unchanged wordcount refl allowed seen sound _;
-    tells = λ allowed private seen op sound short. unchanged wordcount refl allowed seen sound _;
-  };
-  limits = record {
-    after = λ old words items full limits makes. after_case items (edits (counts_or_none old) words)
-        (λ cs is. edits_short (counts_or_none old) cs words limits (old_short old full) is) makes;
-    loads = λ items version value short loads. loads_short items version value short loads;
-    chores = λ private note. tt;
-  };
-}

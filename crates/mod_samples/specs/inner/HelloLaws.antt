@@ -1,25 +1,30 @@
 -- That hellotype obeys the laws of a module.
 use Rattle.std.proofs.Common.{◌≡◌, ℕ, ◌≤◌, ℤ, pos, Bool, true, false, List, [], ◌∷◌, length, map, Option, Some, None, Result, Ok, Err, refl, sym, ap, subst, true≢false, arith, if◌then◌else◌}
-use Rattle.std.specs.Prelude.{◌==◌, int_lt, nat_lt, IsTrue}
+use Rattle.std.specs.Prelude.{◌==◌, FitsSigned, int_lt, nat_lt, IsTrue}
 use Rattle.std.specs.Char.{to_ascii_uppercase}
 use Rattle.std.specs.Cmp.Lexicographic.{bytes_decides}
-use Rattle.std.specs.List.{AllByRecursion, IsDistinct, list_all}
+use Rattle.std.specs.Fmt.{signed_decimal}
+use Rattle.std.specs.Int.{w64}
+use Rattle.std.specs.List.{AllByRecursion, list_all}
 use Rattle.std.specs.Option.{option_map}
 use Rattle.std.specs.Str.{bytes_eq}
 use Rattle.std.proofs.lemmas.Bool.Decides.{nat_tests}
+use Rattle.std.proofs.lemmas.Int.{ints}
 use Rattle.std.proofs.lemmas.List.{length-map}
 use Rattle.std.proofs.lemmas.Option.{none-some, same_Some}
+use Rattle.byte_text.proofs.Decimals.{i64_of-decimal, signed_decimal-short}
 use Rattle.byte_text.specs.Number.{i64_of}
-use Rattle.core_types.specs.CommandRow.{CommandRow, takes}
+use Rattle.core_types.specs.CommandRow.{CommandRow, takes, writing}
 use Rattle.sequences.specs.Words.{word}
 use Rattle.core_types.specs.Keys.{Native, value_at}
 use Rattle.core_types.specs.declared.load_fault.LoadFault.{LoadFault}
 use Rattle.core_types.specs.declared.load_fault.LoadFault.TheVariants as load_fault
 use Rattle.type_ids.proofs.Names.{named-found}
-use Rattle.module_laws.specs.Laws.{AreCommands, IsCall, IsDone, IsLawful, IsSound}
-use Rattle.module_laws.specs.Limits.{IsWithinLimits}
+use Rattle.module_laws.specs.Laws.{AreCommands, IsCall, IsDone, IsLawful, IsReply, IsSound, IsWriting, IsWritten}
+use Rattle.core_types.specs.Limits.{IsWithinLimits}
 use Rattle.module_laws.specs.Meaning.{type_of}
-use Rattle.module_laws.specs.Replay.{command_name, own_value, row_named}
+use Rattle.module_laws.specs.Named.{command_name, row_named}
+use Rattle.module_laws.specs.Replay.{own_value}
 use Rattle.module_laws.specs.Told.{Seen}
 use Rattle.module_laws.specs.Types.{is_full, is_short}
 use Rattle.module_laws.specs.Words.{Bytes, Words, Saved}
@@ -27,7 +32,7 @@ use Rattle.mod_samples.specs.HelloNumbers.{hello_loads, numbers_in, saved_again,
 use Rattle.mod_samples.specs.HelloType.{hello_name, hello_rows, hello_says, hellotype, insert_name, inserts, lengths, numbers_at, numbers_or_none, range_name, ranges, natural, to_insert}
 use Rattle.mod_samples.specs.Rising.{inserted, is_rising}
 use Rattle.mod_samples.specs.Words.{own}
-use Rattle.mod_samples.specs.inner.Changing.{change_done, unchanged}
+use Rattle.mod_samples.specs.inner.Changing.{change_done, reply_either, unchanged}
 use Rattle.mod_samples.specs.inner.ReadBack.{err-ok, read_back, same_Ok, saved_short}
 
 -- what was saved is read back
@@ -36,7 +41,6 @@ pub hello_reads_back : (ns : List ℤ) → is_rising ns ≡ true
 hello_reads_back ns rising = ap saved_again (read_back ns rising)
 
 hello_commands : AreCommands hello_rows
-unfolding IsDistinct
 hello_commands = record {
   each = (
     record { upper = refl; dotted = refl; keyed = λ is. omega arith },
@@ -45,7 +49,7 @@ hello_commands = record {
       (record { upper = refl; dotted = refl; keyed = λ is. omega arith }, tt),
     ),
   );
-  distinct = ((refl, (refl, tt)), ((refl, tt), (tt, tt)));
+  distinct = refl;
   few = omega arith;
 }
 
@@ -84,7 +88,7 @@ insert_words : (words : Words) → IsCall hello_rows words
     → bytes_eq (command_name words) insert_name ≡ true → length words ≡ 3
 insert_words words call is =
     let same : command_name words ≡ insert_name = (bytes_decides (command_name words) insert_name).0 is in
-    let row : Some (record { name = insert_name; arity = pos 3; writes = true; key = 1 }) ≡ Some call.row =
+    let row : Some (writing insert_name (pos 3)) ≡ Some call.row =
     subst (λ name. row_named name hello_rows ≡ Some call.row) same call.named in
     three_words (length words) (subst (λ r. IsTrue (takes r.arity (length words))) (sym (same_Some _ call.row row)) call.arity)
 
@@ -183,6 +187,81 @@ loads_case : (b : Bool) (parts : Saved) (version : ℕ) (value : Saved)
 loads_case true parts version value is = absurd (err-ok is)
 loads_case false parts version value is = again_case (numbers_in version parts) value is
 
+-- what each command answers is a reply
+inserts_reply : (seen : Seen) (words : Words) (n : Option ℤ) (ns : Option (List ℤ))
+    → IsReply (inserts seen words n ns).answer
+inserts_reply seen words None ns = tt
+inserts_reply seen words (Some n) None = tt
+inserts_reply seen words (Some n) (Some ns) = tt
+
+ranges_reply : (seen : Seen) (first count : Option ℕ) (ns : Option (List ℤ))
+    → IsReply (ranges seen first count ns).answer
+ranges_reply seen None None ns = tt
+ranges_reply seen None (Some count) ns = tt
+ranges_reply seen (Some first) None ns = tt
+ranges_reply seen (Some first) (Some count) None = tt
+ranges_reply seen (Some first) (Some count) (Some ns) = tt
+
+lengths_reply : (seen : Seen) (ns : Option (List ℤ)) → IsReply (lengths seen ns).answer
+lengths_reply seen None = tt
+lengths_reply seen (Some ns) = tt
+
+says_reply : (seen : Seen) (words : Words) → IsReply (hello_says seen words).answer
+says_reply seen words =
+    let ns = numbers_at seen.keys (word 1 words) in
+    reply_either (bytes_eq (word 0 words) insert_name) _ _
+    (inserts_reply seen words (i64_of (word 2 words)) ns)
+    (reply_either (bytes_eq (word 0 words) range_name) _ _
+    (ranges_reply seen (natural (i64_of (word 2 words))) (natural (i64_of (word 3 words))) ns)
+    (lengths_reply seen ns))
+
+-- what an effect makes of a value or none, by the number that its words insert
+abbrev makes_of : Option Saved → Option ℤ → Option (Option Saved)
+makes_of old n = option_map (λ k. Some (saved_numbers (inserted k (numbers_or_none old)))) n
+
+-- `after` makes something of an INSERT alone
+insert_else : (b : Bool) (name key text : Bytes) (old left : Option Saved)
+    → bytes_eq (map to_ascii_uppercase name) insert_name ≡ b
+    → makes_of old (if b then i64_of text else None) ≡ Some left
+    → IsWriting hello_rows (name ∷ key ∷ text ∷ [])
+insert_else true name key text old left is makes =
+    let same : map to_ascii_uppercase name ≡ insert_name = (bytes_decides _ insert_name).0 is in
+    record {
+      row = writing insert_name (pos 3);
+      named = ap (λ upper. row_named upper hello_rows) same;
+      writes = refl;
+    }
+insert_else false name key text old left is makes = absurd (none-some left makes)
+
+none_else : (old : Option Saved) (words : Words) (left : Option Saved)
+    → makes_of old (to_insert words) ≡ Some left → IsWriting hello_rows words
+none_else old [] left makes = absurd (none-some left makes)
+none_else old (name ∷ []) left makes = absurd (none-some left makes)
+none_else old (name ∷ key ∷ []) left makes = absurd (none-some left makes)
+none_else old (name ∷ key ∷ text ∷ []) left makes =
+    insert_else (bytes_eq (map to_ascii_uppercase name) insert_name) name key text old left refl makes
+none_else old (name ∷ key ∷ text ∷ other ∷ more) left makes = absurd (none-some left makes)
+
+zero_fits : FitsSigned w64 (pos 0)
+zero_fits = omega (arith, ints)
+
+-- an INSERT of 0 makes a list of it
+zero_written : IsWritten hellotype (writing insert_name (pos 3))
+zero_written = record {
+  words = insert_name ∷ [] ∷ signed_decimal (pos 0) ∷ [];
+  old = None;
+  left = Some (saved_numbers (pos 0 ∷ []));
+  named = refl;
+  arity = refl;
+  limits = record {
+    some = omega arith;
+    few = omega arith;
+    each = (omega arith, (omega arith, (omega (arith, (signed_decimal-short (pos 0) zero_fits).few), tt)));
+  };
+  full = tt;
+  made = ap (makes_of None) (i64_of-decimal (pos 0) zero_fits);
+}
+
 pub hello_lawful : IsLawful hellotype
 hello_lawful = record {
   named = named-found hello_name refl refl
@@ -196,6 +275,8 @@ hello_lawful = record {
     goes = λ allowed private seen job sound. unchanged hellotype refl allowed seen sound _;
     tells = λ allowed private seen op sound short. unchanged hellotype refl allowed seen sound _;
   };
+  writes = record { none_else = none_else; each = (zero_written, (tt, (tt, tt))) };
+  at_once = λ private seen words call writes. says_reply seen (own words);
   limits = record {
     after = λ old words items full limits makes. after_full (to_insert words) (numbers_or_none old) items makes;
     loads = λ items version value short loads. loads_case (nat_lt 1 version) items version value loads;

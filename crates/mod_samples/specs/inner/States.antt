@@ -1,6 +1,6 @@
 -- The states of the modules.
 use Rattle.module_laws.specs.Runs.{State}
-use Rattle.module_laws.specs.inner.Plain.{plain_state}
+use Rattle.module_laws.specs.Plain.{plain_state}
 use Rattle.mod_samples.specs.declared.hello_type.HelloType.{HelloType}
 use Rattle.mod_samples.specs.declared.word_count.WordCount.{WordCount}
 

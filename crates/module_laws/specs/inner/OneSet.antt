@@ -35,6 +35,7 @@ one_lawful meaning lawful =
       apart =
           λ place other before within. absurd (none place other before within);
       few = omega arith;
+      few_commands = omega (arith, lawful.commands.few);
     }
   where
     none : (place other : ℕ) → place < other → other < 1 → ⊥

@@ -11,7 +11,8 @@ use Rattle.core_types.specs.Keys.{Keys}
 use Rattle.core_types.specs.declared.effect.Effect.{Effect}
 use Rattle.module_laws.specs.Laws.{IsCommand}
 use Rattle.module_laws.specs.Meaning.{Meaning}
-use Rattle.module_laws.specs.Replay.{AreFaithful, command_name, has_dot, owned_by, replayed, replayed_all, replayed_by, row_named}
+use Rattle.module_laws.specs.Named.{command_name, has_dot, row_named}
+use Rattle.module_laws.specs.Replay.{AreFaithful, owned_by, replayed, replayed_all, replayed_by}
 use Rattle.module_laws.specs.Told.{Builtins}
 use Rattle.module_laws.specs.Words.{Bytes}
 

@@ -1,7 +1,7 @@
 -- What holds of two sets that are joined. Serves the laws of ModuleSet for Two, and the clauses of
 -- its calls.
 use Rattle.std.proofs.Common.{◌≡◌, ℕ, suc, zero, ◌+◌, ◌-◌, ◌<◌, ◌≤◌, List, [], ◌∷◌, ◌++◌, Bool, true, false, Option, Some, None, refl, sym, ap, subst, ◌∙◌, true≢false, arith, if◌then◌else◌, ⊎_elim, length}
-use Rattle.std.specs.Prelude.{◌||◌, is_some, Ok, not}
+use Rattle.std.specs.Prelude.{◌||◌, is_some, sum_by, Ok, not}
 use Rattle.std.specs.Option.{option_map, option_or}
 use Rattle.std.proofs.lemmas.Iterator.Adapters.{position_from-zero}
 use Rattle.std.specs.List.{list_any, position_from}
@@ -9,12 +9,13 @@ use Rattle.std.specs.Str.{bytes_eq}
 use Rattle.std.specs.Cmp.Lexicographic.{bytes_decides}
 use Rattle.std.proofs.lemmas.Bool.{cases_lt, cond_below, cond_above}
 use Rattle.std.proofs.Math.Nat.{zero-add, suc-add}
+use Rattle.std.proofs.lemmas.List.Sums.{sum_by-append}
 use Rattle.std.proofs.lemmas.Option.{none-some, same_Some}
 use Rattle.core_types.specs.Keys.{Native}
 use Rattle.module_laws.specs.Laws.{IsLawful}
 use Rattle.module_laws.specs.Meaning.{Meaning, type_of}
 use Rattle.module_laws.specs.Runs.{State}
-use Rattle.module_laws.specs.Sets.{Modules, held, by_half, joined, listed, types_of, IsOwnValue, SameBut, place_in, has_name, has_row, shares_command, AreApart, AreLawful}
+use Rattle.module_laws.specs.Sets.{Modules, held, by_half, joined, listed, types_of, IsOwnValue, SameBut, place_in, has_name, has_row, shares_command, command_count, AreApart, AreLawful}
 use Rattle.module_laws.specs.Sides.{native_of, place_of_half}
 use Rattle.module_laws.specs.Types.{NativeType, has_type, are_apart}
 use Rattle.module_laws.specs.declared.either.Either.{Either}
@@ -236,6 +237,12 @@ apart_from meaning b names commands p below = record {
       (λ m. has_row m.rows row.name) b.size b.meaning_at none p below) commands;
 }
 
+-- two sets have the commands of both
+count_joined : (a b : Modules) → command_count (joined a b) ≡ command_count a + command_count b
+count_joined a b =
+    ap (sum_by (λ m. length m.rows)) (listed_joined a.size b.size a.meaning_at b.meaning_at)
+    ∙ sum_by-append (λ m. length m.rows) (listed a.size a.meaning_at) (listed b.size b.meaning_at)
+
 module _ (a b : Modules) (first : AreLawful a) (second : AreLawful b)
     (names : (p : ℕ) → p < a.size → has_name b (a.meaning_at p).name ≡ false)
     (commands : (p : ℕ) → p < a.size → shares_command (a.meaning_at p) b ≡ false) where
@@ -279,8 +286,26 @@ module _ (a b : Modules) (first : AreLawful a) (second : AreLawful b)
       (cases_lt p a.size))
       (cases_lt q a.size)
 
-  pub two_lawful : a.size + b.size ≤ 200 → AreLawful (joined a b)
-  two_lawful few = record { each = each_lawful; apart = all_apart; few = few }
+  pub two_lawful : a.size + b.size ≤ 200 → command_count a + command_count b ≤ 900
+      → AreLawful (joined a b)
+  two_lawful few few_commands = record {
+    each = each_lawful;
+    apart = all_apart;
+    few = few;
+    few_commands = omega (arith, few_commands, count_joined a b);
+  }
+
+-- no module of either half has freed more values than it has made
+pub half_counted : (a b : Modules) (f g : ℕ → State)
+    → ((p : ℕ) → p < a.size → (f p).freed ≤ (f p).made)
+    → ((p : ℕ) → p < b.size → (g p).freed ≤ (g p).made) → (p : ℕ) → p < a.size + b.size
+    → (by_half a.size f g p).freed ≤ (by_half a.size f g p).made
+half_counted a b f g first second p within =
+    ⊎_elim
+    (λ below. subst (λ s. s.freed ≤ s.made) (sym (in_first a.size p f g below)) (first p below))
+    (λ above. subst (λ s. s.freed ≤ s.made) (sym (in_second a.size p f g above))
+    (second (p - a.size) (omega (arith, within, above))))
+    (cases_lt p a.size)
 
 -- a call on a module of one half leaves all others
 pub others_first : (a b : Modules) (place : ℕ) (f f' g : ℕ → State) → SameBut a place f f'

@@ -4,7 +4,7 @@ use Rattle.std.specs.Int.{w64}
 use Rattle.std.specs.Result.{IsOk}
 use Rattle.std.proofs.lemmas.Int.{to_z-of_z}
 use Rattle.module_laws.specs.Told.{with_native}
-use Rattle.module_laws.proofs.HalfViews.{lent_unchanged}
+use Rattle.module_laws.specs.Lending.{lent_unchanged, same_type}
 use Rattle.mod_samples.specs.HelloType.{shown}
 use Rattle.mod_samples.specs.Rising.{inserted}
 use Rattle.mod_samples.proofs.HelloRuns.{list_found, on_err, on_ok}
@@ -26,3 +26,8 @@ returns-in-Ok-clause-err g c =
     on_err c.insert.result _ _ c.insert.ensures.err (λ same.
     (c.native_mut.follows.holds c.insert.new.self is).0
     ∙ ap (λ l. with_native key (shown l.numbers) told) same ∙ lent_unchanged told key (shown list.numbers) c.in-Ok.ensures.value)
+
+pub returns-in-Ok-clause-typed : goal.returns-in-Ok-clause-typed
+returns-in-Ok-clause-typed g c =
+    let is : IsOk c.native_mut.result = rw c.in-Ok.is refl in
+    same_type _ _ _ _ _ c.in-Ok.ensures.value refl (c.native_mut.follows.holds c.insert.new.self is).2

@@ -2,7 +2,7 @@
 use Rattle.std.proofs.Common.{List, refl, sym, ap, ◌∙◌}
 use Rattle.std.specs.Result.{IsOk}
 use Rattle.module_laws.specs.Told.{with_native}
-use Rattle.module_laws.proofs.HalfViews.{lent_unchanged}
+use Rattle.module_laws.specs.Lending.{lent_unchanged, same_type}
 use Rattle.mod_samples.specs.Counts.{Counted, with_count}
 use Rattle.mod_samples.specs.WordCount.{counts_shown}
 use Rattle.mod_samples.proofs.CountRuns.{words_found}
@@ -25,3 +25,8 @@ returns-in-Ok-clause-err g c =
     on_err c.set.result _ _ c.set.ensures.err (λ same.
     (c.native_mut.follows.holds c.set.new.self is).0
     ∙ ap (λ v. with_native key (counts_shown v.counts) told) same ∙ lent_unchanged told key (counts_shown value.counts) c.in-Ok.ensures.value)
+
+pub returns-in-Ok-clause-typed : goal.returns-in-Ok-clause-typed
+returns-in-Ok-clause-typed g c =
+    let is : IsOk c.native_mut.result = rw c.in-Ok.is refl in
+    same_type _ _ _ _ _ c.in-Ok.ensures.value refl (c.native_mut.follows.holds c.set.new.self is).2

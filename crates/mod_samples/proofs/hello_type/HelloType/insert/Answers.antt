@@ -10,7 +10,7 @@ use Rattle.core_types.specs.declared.reply.Reply.TheVariants as reply
 use Rattle.module_laws.specs.Meaning.{type_of}
 use Rattle.module_laws.specs.Told.{with_effect}
 use Rattle.module_laws.specs.declared.verdict.Verdict.TheVariants as verdict
-use Rattle.module_laws.specs.inner.Plain.{plain_state}
+use Rattle.module_laws.specs.Plain.{plain_state}
 use Rattle.mod_samples.specs.Changes.{Change, count_reply, module_note}
 use Rattle.mod_samples.specs.HelloNumbers.{saved_numbers}
 use Rattle.mod_samples.specs.HelloType.{hello_name, hellotype, list_at, numbers_at}

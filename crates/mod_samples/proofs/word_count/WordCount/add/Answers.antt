@@ -7,10 +7,10 @@ use Rattle.std.proofs.lemmas.Int.{to_z_pos}
 use Rattle.std.proofs.lemmas.Bool.Decides.{nat_tests}
 use Rattle.sequences.specs.Words.{word}
 use Rattle.core_types.specs.declared.reply.Reply.TheVariants as reply
-use Rattle.module_laws.specs.Limits.{IsWithinLimits}
+use Rattle.core_types.specs.Limits.{IsWithinLimits}
 use Rattle.module_laws.specs.Meaning.{type_of}
 use Rattle.module_laws.specs.Runs.{Runs, scene}
-use Rattle.module_laws.specs.inner.Plain.{plain_state}
+use Rattle.module_laws.specs.Plain.{plain_state}
 use Rattle.mod_samples.specs.Counts.{count_at}
 use Rattle.mod_samples.specs.WordCount.{counts_at, set_words, sets, wordcount, words_at}
 use Rattle.mod_samples.specs.inner.CountLaws.{set_limits, word_short}

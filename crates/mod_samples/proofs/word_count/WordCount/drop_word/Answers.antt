@@ -7,7 +7,7 @@ use Rattle.core_types.specs.declared.reply.Reply.TheVariants as reply
 use Rattle.module_laws.specs.Meaning.{Did, type_of}
 use Rattle.module_laws.specs.Runs.{Runs, scene}
 use Rattle.module_laws.specs.Told.{with_effect}
-use Rattle.module_laws.specs.inner.Plain.{answers_only, plain_state}
+use Rattle.module_laws.specs.Plain.{answers_only, plain_state}
 use Rattle.mod_samples.specs.Changes.{Change, leaves, with_notes}
 use Rattle.mod_samples.specs.Counts.{without_word}
 use Rattle.mod_samples.specs.WordCount.{count_name, counts_at, drop_notes, dropped, value_of, wordcount, words_at}

@@ -4,7 +4,7 @@ use Rattle.std.specs.Prelude.{codes}
 use Rattle.sequences.specs.Words.{word}
 use Rattle.module_laws.specs.Meaning.{type_of}
 use Rattle.module_laws.specs.Told.{with_effect}
-use Rattle.module_laws.specs.inner.Plain.{plain_state}
+use Rattle.module_laws.specs.Plain.{plain_state}
 use Rattle.mod_samples.specs.Changes.{Change, module_note}
 use Rattle.mod_samples.specs.Counts.{with_count}
 use Rattle.mod_samples.specs.WordCount.{count_name, value_of, wordcount, words_at}

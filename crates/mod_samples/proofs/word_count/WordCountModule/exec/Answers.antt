@@ -2,7 +2,7 @@
 use Rattle.std.proofs.Common.{◌≡◌, false, sym, ap, ◌∙◌, subst}
 use Rattle.std.specs.Str.{bytes_eq}
 use Rattle.sequences.specs.Words.{word}
-use Rattle.module_laws.specs.Limits.{IsWithinLimits}
+use Rattle.core_types.specs.Limits.{IsWithinLimits}
 use Rattle.mod_samples.specs.WordCount.{add_name, counts_at, drop_name, gets, set_name}
 use Rattle.mod_samples.specs.Words.{own}
 use Rattle.mod_samples.proofs.CountRuns.{gets_only}

@@ -1,7 +1,8 @@
 use Rattle.std.proofs.Common.{◌∷◌, refl, ap, ◌∙◌}
 use Rattle.std.specs.Result.{IsOk}
 use Rattle.module_laws.specs.declared.either.Either.TheVariants as either
-use Rattle.module_laws.proofs.HalfViews.{right_fails, right_shown, lent_unchanged, on_err}
+use Rattle.module_laws.specs.Lending.{lent_typed, lent_unchanged}
+use Rattle.module_laws.proofs.HalfViews.{right_fails, right_shown, on_err}
 use Rattle.module_laws.proofs.right.RightContext.native_mut.Goals as goal
 
 pub returns : goal.returns
@@ -14,8 +15,8 @@ returns g c =
     let stays = lent_unchanged told c.args.key.now _ found in (
       (
         refl,
-        (λ w ok. ((holds (either.Right w) is).0, ap (λ names. c.args.self.now.ctx.ghost_name ∷ names) (holds (either.Right w) is).1)),
-        on_err c.right_of.result _ ((holds both is).0 ∙ stays, ap (λ names. c.args.self.now.ctx.ghost_name ∷ names) (holds both is).1),
+        (λ w ok. let end = holds (either.Right w) is in (end.0, ap (λ names. c.args.self.now.ctx.ghost_name ∷ names) end.1, end.2)),
+        (let end = holds both is in on_err c.right_of.result _ (end.0 ∙ stays, ap (λ names. c.args.self.now.ctx.ghost_name ∷ names) end.1, lent_typed _ _ _ _ found end.2)),
       ),
       record {
         lends = tt;

@@ -4,7 +4,7 @@ use Rattle.sequences.specs.Words.{word}
 use Rattle.module_laws.specs.Meaning.{type_of}
 use Rattle.module_laws.specs.Told.{with_effect}
 use Rattle.module_tests.specs.Counter.{counter, found, makes}
-use Rattle.module_laws.specs.inner.Plain.{plain_state}
+use Rattle.module_laws.specs.Plain.{plain_state}
 use Rattle.module_tests.proofs.CounterRuns.{key_short, stops, tells}
 use Rattle.module_tests.proofs.counter.Counters.change.Goals as goal
 

@@ -3,7 +3,7 @@ use Rattle.std.proofs.Common.{◌≡◌, true, false, refl, sym, ap, ◌∙◌, 
 use Rattle.std.specs.Prelude.{codes}
 use Rattle.std.specs.Str.{bytes_eq}
 use Rattle.sequences.specs.Words.{word}
-use Rattle.module_laws.specs.Limits.{IsWithinLimits}
+use Rattle.core_types.specs.Limits.{IsWithinLimits}
 use Rattle.module_laws.specs.Told.{called, with_called}
 use Rattle.module_tests.specs.Counter.{found, number_reply, own}
 use Rattle.module_tests.specs.CounterLaws.{own_limits}

@@ -4,7 +4,7 @@ use Rattle.std.specs.Option.{option_map}
 use Rattle.core_types.specs.Keys.{with_changed}
 use Rattle.core_types.specs.declared.value.Value.TheVariants as value
 use Rattle.module_tests.specs.Shelf.{keys_of}
-use Rattle.module_tests.proofs.Shelves.{key_here, names_same, put_here, shown, told_with}
+use Rattle.module_tests.proofs.Shelves.{key_here, names_same, put_here, shown, told_with, types_kept}
 use Rattle.module_tests.proofs.shelf.ShelfContextValue.native_mut.Goals as goal
 
 pub returns-in-Some : goal.returns-in-Some
@@ -19,6 +19,7 @@ returns-in-Some g c =
               (ap (λ s. s.key) is ∙ key_here slots c.args.key.now c.in-Some.place at.newest slot) (ap (λ s. s.live) is ∙ at.live slot))
               (names_same slots c.in-Some.place slot (left w) (ap (λ s. s.name) is)),
           refl,
+          types_kept slots c.args.key.now c.in-Some.place at.newest slot (left w) (ap (λ s. s.name) is) (at.live slot),
         )),
         tt,
       ),
