@@ -15,7 +15,7 @@ use Rattle.module_laws.specs.Replay.{AreFaithful, owned_by, owner_of, replayed, 
 use Rattle.module_laws.specs.Sets.{Modules, listed, has_row, AreApart, AreLawful}
 use Rattle.module_laws.specs.Told.{Builtins, Seen}
 use Rattle.module_laws.specs.Words.{Bytes}
-use Rattle.module_laws.specs.inner.Rows.{found_named, not_own}
+use Rattle.module_laws.specs.Rows.{found_named, not_own}
 
 or_false : (a b : Bool) → (a || b) ≡ false → (a ≡ false) × (b ≡ false)
 or_false true b e = absurd (true≢false e)

@@ -15,4 +15,6 @@ pub mod Rewriting
 pub mod Telling
 pub mod Sets
 pub mod Joining
+pub mod Rows
+pub mod Sound
 pub mod inner

@@ -1,4 +1,3 @@
 pub mod HalfTypes
 pub mod OneSet
 pub mod TwoSets
-pub mod Rows

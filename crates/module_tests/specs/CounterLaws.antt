@@ -30,7 +30,7 @@ use Rattle.module_laws.specs.Types.{is_full, is_short}
 use Rattle.module_laws.specs.Words.{Bytes, Words, Saved}
 use Rattle.module_tests.specs.Counter.{changed, counter, counter_after, counter_loads, counter_name, counter_rows, counter_says, makes, moves, number_of, own, saved, shown}
 use Rattle.module_laws.specs.Plain.{answers_with}
-use Rattle.module_laws.specs.inner.Rows.{found_row, replayed_beside}
+use Rattle.module_laws.specs.Rows.{found_row, replayed_beside}
 
 -- a key that gets a number or none leaves a keyspace
 pub stored_kept : (seen : Seen) (key : Bytes) (made : Option ℕ) (allowed : Native → Bool)

@@ -3,3 +3,4 @@ pub mod Counter
 pub mod CounterLaws
 pub mod Shelf
 pub mod Texts
+pub mod Wrong

@@ -16,7 +16,7 @@ use byte_text::read_i64;
 use core_types::{
     Args, Blob, CommandSpec, Items, NoMemory, Note, NoteClass, Part, Reply, Stop, Tagged,
 };
-use module_laws::{ApplyStop, LoadStop, ModuleSet, Verdict};
+use module_laws::{ApplyStop, LoadStop, ModuleSet, Verdict, name_of};
 use std::alloc::Global;
 use std::process::Abort;
 
@@ -192,6 +192,7 @@ fn applied<S: ModuleSet>(
     requires place { HasPlace S.modules place }
     requires owner { S.owner_of value ≡ place }
 {
+    assert!(rt; name_of(set, &value) == S::name(place));
     assert!(rt; set.freed(place) < set.made(place));
     let (answer, back) = match set.apply(alloc, place, Some(value), words) {
         Ok(None) => (Ok([0, 0]), None),

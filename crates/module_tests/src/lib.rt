@@ -30,3 +30,5 @@ mod slot;
 mod strings;
 #[cfg(test)]
 mod text;
+#[cfg(test)]
+mod wrong;

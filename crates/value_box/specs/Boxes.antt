@@ -1,10 +1,9 @@
 -- Boxes that are issued and taken back.
 use Rattle.std.specs.Prelude.{ℕ, ◌+◌, ◌-◌, ◌≤◌, ⊤, List, [], ◌∷◌}
 
--- a value, with the name of its type and a serial
+-- a value, with a serial
 pub record Labelled (V : Type 0) : Type 0 where
   pub serial : ℕ
-  pub name : List ℕ
   pub value : V
 
 -- how many boxes were issued, and how many of them were taken back

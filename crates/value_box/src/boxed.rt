@@ -5,13 +5,11 @@ ghost use Rattle.std.specs.Borrow.{sem, Lends};
 ghost use Rattle.value_box.specs.contracts.boxed.Boxed.{the_row};
 
 use std::marker::Model;
-use type_ids::TypeName;
 
-/// A value, the name of its type, and a serial that no other box of its vault has. It must be
-/// spent: `Vault::retire` takes it back.
+/// A value, and a serial that no other box of its vault has. It must be spent: `Vault::retire`
+/// takes it back. The name of its type is that of the value, and stands nowhere else.
 pub struct Boxed<V> {
     serial: u64,
-    name: TypeName,
     value: V,
 }
 
@@ -20,28 +18,20 @@ impl<V> Model for Boxed<V> {
 
     ghost Value = { Labelled V };
 
-    ghost view = { λ b. record { serial = b.serial; name = b.name; value = b.value } };
+    ghost view = { λ b. record { serial = b.serial; value = b.value } };
 }
 
 impl<V> Boxed<V> {
-    pub(crate) fn new(serial: u64, name: TypeName, value: V) -> Boxed<V>
-        ensures { result ≡ record { serial = serial; name = name; value = value } }
+    pub(crate) fn new(serial: u64, value: V) -> Boxed<V>
+        ensures { result ≡ record { serial = serial; value = value } }
     {
-        Boxed {
-            serial,
-            name,
-            value,
-        }
+        Boxed { serial, value }
     }
 
     pub(crate) fn into_value(self) -> V
         ensures { result ≡ self.value }
     {
-        let Boxed {
-            serial: _,
-            name: _,
-            value,
-        } = self;
+        let Boxed { serial: _, value } = self;
         value
     }
 
@@ -52,13 +42,6 @@ impl<V> Boxed<V> {
         self.serial
     }
 
-    /// The name of its value's type.
-    pub fn name(&self) -> TypeName
-        ensures name { result ≡ self.now.name }
-    {
-        self.name
-    }
-
     /// Its value.
     pub fn value(&self) -> &V
         ensures value { result.now ≡ self.now.value }
@@ -66,7 +49,7 @@ impl<V> Boxed<V> {
         &self.value
     }
 
-    /// Its value, to be changed. The serial and the name stay.
+    /// Its value, to be changed. The serial stays.
     pub fn value_mut(&mut self) -> &mut V
         ensures* writes_back { sem 𝓛 (Lends (the_row V.row) V.row self.entry result
             (λ left. record self.old { value = left })) }

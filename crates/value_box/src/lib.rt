@@ -1,9 +1,8 @@
 //! Values of modules in boxes, each with a number of its own.
 //!
-//! A `Vault` issues boxes. Each `Boxed` holds a serial, the name of its value's type and the value,
-//! and must be spent: it is given back to a vault, which hands out its value. Serials rise from 0,
-//! and none is issued twice. The vault counts the boxes that it has issued and not got back. Stands
-//! on type_ids.
+//! A `Vault` issues boxes. Each `Boxed` holds a serial and a value, and must be spent: it is given
+//! back to a vault, which hands out its value. Serials rise from 0, and none is issued twice. The
+//! vault counts the boxes that it has issued and not got back. Stands on no other crate.
 //!
 //! Every call is O(1) and takes no memory.
 #![tactic(auto)]

@@ -5,7 +5,6 @@ ghost use Rattle.value_box.specs.Boxes.{no_boxes, one_issued, one_retired, live}
 
 use crate::boxed::Boxed;
 use std::marker::Model;
-use type_ids::TypeName;
 
 /// Issues boxes, and takes them back. Contracts see it as how many it issued and how many it took
 /// back.
@@ -39,9 +38,8 @@ impl Vault {
 
     /// Puts a value into a box, whose serial is the number of those issued before. The value comes
     /// back where that is 2^64 - 1.
-    pub fn issue<V>(&mut self, name: TypeName, value: V) -> Result<Boxed<V>, V>
-        ensures boxed { IfOk result (λ b. b
-            ≡ record { serial = self.old.issued; name = name; value = value }) }
+    pub fn issue<V>(&mut self, value: V) -> Result<Boxed<V>, V>
+        ensures boxed { IfOk result (λ b. b ≡ record { serial = self.old.issued; value = value }) }
         ensures ok { OnOk result (self.new ≡ one_issued self.old) }
         ensures back { IfErr result (λ back. back ≡ value) }
         ensures err { OnErr result (self.new ≡ self.old) }
@@ -52,7 +50,7 @@ impl Vault {
         }
         let serial = self.issued;
         self.issued += 1;
-        Ok(Boxed::new(serial, name, value))
+        Ok(Boxed::new(serial, value))
     }
 
     /// Takes a box back, and gives its value. It is one that this vault issued.

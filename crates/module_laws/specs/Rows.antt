@@ -1,5 +1,5 @@
--- Rows of commands that are found by name. Serves the law effects_make_the_keys, and the laws of
--- modules that call built-in commands.
+-- Rows of commands that are found by name, and effects of built-in commands beside those of a module.
+-- Serves the laws effects_make_the_keys and builtin_effects_stay; a module's proofs may cite it.
 use Rattle.std.proofs.Common.{◌≡◌, List, [], ◌∷◌, Bool, true, false, Option, Some, None, refl, sym, ap, subst, ◌∙◌, if◌then◌else◌}
 use Rattle.std.specs.Option.{option_and_then}
 use Rattle.std.specs.List.{AllByRecursion}

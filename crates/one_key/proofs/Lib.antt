@@ -1,0 +1,4 @@
+pub mod OwnWords
+pub mod LentValues
+pub mod Writes
+pub mod Applying
