@@ -9,7 +9,7 @@ use Rattle.std.specs.FinMap.{get-insert, get-remove, same_map}
 use Rattle.std.proofs.lemmas.Bool.{cases_Bool, false≢true}
 use Rattle.std.proofs.lemmas.Map.Lookups.{exact_bytes}
 use Rattle.core_types.specs.declared.value.Value.{Value}
-use Rattle.core_types.specs.Keys.{Entry, KeysOf, entry_at, with_entry, with_changed, with_due, with_deadline, without, with_moved, renamed}
+use Rattle.core_types.specs.Keys.{Entry, KeysOf, entry_at, deadline_at, with_entry, with_changed, with_due, with_deadline, without, with_moved, renamed}
 use Rattle.key_store.specs.inner.Held.{held}
 use Rattle.key_store.proofs.Trees.{equal}
 
@@ -22,6 +22,10 @@ differs a b apart = ⊎_elim (λ same. absurd (apart (exact_bytes a b (equal (sl
 over_held : {A : Type 0} (b c : Bool) (x y z n : A) → cond b x (cond c n (cond b y z)) ≡ cond b x (cond c n z)
 over_held true c x y z n = refl
 over_held false c x y z n = refl
+
+twice : {A : Type 0} (b : Bool) (x y z : A) → cond b x (cond b y z) ≡ cond b x z
+twice true x y z = refl
+twice false x y z = refl
 
 module _ {N : Type 0} where
   -- another key has what it had
@@ -87,6 +91,37 @@ module _ {N : Type 0} where
       by : (q : List ℕ) (b : Bool) → is_same q key ≡ b → cond b (Some entry) (entry_at keys q) ≡ entry_at keys q
       by q true same = sym found ∙ ap (entry_at keys) (sym (exact_bytes q key (equal (slice_cmp nat_cmp q key) same)))
       by q false apart = refl
+
+  -- of two entries that a key gets, it has the later
+  pub with_twice : (keys : KeysOf N) (key : List ℕ) (first then : Entry N) → with_entry (with_entry keys key first) key then ≡ with_entry keys key then
+  with_twice keys key first then = same_map nat_list_cmp_total exact_bytes _ _ (λ q.
+      get-insert nat_list_cmp_total (with_entry keys key first) key then q
+      ∙ ap (cond (is_same q key) (Some then)) (get-insert nat_list_cmp_total keys key first q)
+      ∙ twice (is_same q key) (Some then) (Some first) (entry_at keys q)
+      ∙ sym (get-insert nat_list_cmp_total keys key then q))
+
+  -- an entry that was exchanged is put back
+  pub exchanged_back : (keys : KeysOf N) (key : List ℕ) (new before : Entry N) → Some before ≡ entry_at keys key → with_entry (with_entry keys key new) key before ≡ keys
+  exchanged_back keys key new before was = with_twice keys key new before ∙ same_again keys key before (sym was)
+
+  -- and so is a deadline
+  pub dated_back : (keys : KeysOf N) (key : List ℕ) (at : Option ℕ) → with_deadline (with_deadline keys key at) key (deadline_at keys key) ≡ keys
+  dated_back keys key at = by (entry_at keys key) refl
+    where
+      by : (o : Option (Entry N)) → entry_at keys key ≡ o → with_deadline (with_due keys key at o) key (option_and_then (λ (e : Entry N). e.deadline) o) ≡ keys
+      by None is = ap (with_due keys key None) is
+      by (Some e) is =
+          let new : Entry N = record e { deadline = at } in
+          ap (with_due (with_entry keys key new) key e.deadline) (this_key keys key new)
+          ∙ with_twice keys key new e ∙ same_again keys key e is
+
+-- what is there is one thing
+pub some_injective : {A : Type 0} {a b : A} → Some a ≡ Some b → a ≡ b
+some_injective {A} {a} {b} is = ap (λ (o : Option A). option_or_else o) is
+  where
+    option_or_else : Option A → A
+    option_or_else None = a
+    option_or_else (Some x) = x
 
 pub on_ok : {A B P Q : Type 0} (r : Result A B) → (P → Q) → OnOk r P → OnOk r Q
 on_ok (Ok a) gives p = gives p

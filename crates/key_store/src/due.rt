@@ -78,6 +78,23 @@ impl Dues {
         let _ = self.remove(key, deadline);
     }
 
+    // Takes out a key at its deadline, where it has one, by its bytes. Takes memory only where it has
+    // one.
+    pub(crate) fn forget_key(
+        &mut self,
+        alloc: Global,
+        key: &[u8],
+        deadline: Option<u64>,
+    ) -> Result<(), NoMemory>
+        ensures ok { OnOk result (self.new ≡ taken_out self.old key.now deadline) }
+        ensures err { OnErr result (self.new ≡ self.old) }
+    {
+        if deadline.is_some() {
+            self.forget(Name::new(alloc, key)?, deadline);
+        }
+        Ok(())
+    }
+
     // Takes out a key at its deadline, where it has one, and gives the key back.
     pub(crate) fn remove(&mut self, key: Name, deadline: Option<u64>) -> Name
         ensures key { result ≡ key }

@@ -146,7 +146,7 @@ impl<N> KeyStore<N> {
 
     /// Gives a key that is there this value and no deadline, and gives back the value that it had.
     /// An `Err` changes nothing, and gives the value back; it comes only where the key has a
-    /// deadline and more than 23 bytes. A key without a deadline is looked up once.
+    /// deadline and more than 23 bytes. The key is looked up once, and again before an `Err`.
     pub fn replace(&mut self, key: &[u8], value: Value<N>) -> Result<Value<N>, Value<N>>
         requires there { IsSome (value_at self.old key.now) }
         ensures before { IfOk result (λ before. Some before ≡ value_at self.old key.now) }
@@ -154,31 +154,24 @@ impl<N> KeyStore<N> {
         ensures back { IfErr result (λ back. back ≡ value) }
         ensures err { OnErr result (self.new ≡ self.old) }
     {
-        match self.table.renew(key, value) {
-            Ok(before) => Ok(before),
-            Err((deadline, value)) => {
-                let Ok(name) = Name::new(self.alloc, key) else {
-                    return Err(value);
-                };
-                let before = self.table.exchange(key, Stored::new(value, None));
-                self.dues.forget(name, Some(deadline));
-                Ok(before.into_value())
-            }
+        let before = self.table.exchange(key, Stored::new(value, None));
+        match self.dues.forget_key(self.alloc, key, before.deadline()) {
+            Ok(()) => Ok(before.into_value()),
+            Err(NoMemory) => Err(self.table.exchange(key, before).into_value()),
         }
     }
 
     /// Gives the key of this name, which is there, this value and no deadline, and gives back the
-    /// value that it had. Takes no memory.
+    /// value that it had. Takes no memory. The key is looked up once.
     pub fn replace_by(&mut self, name: Name, value: Value<N>) -> Value<N>
         requires there { IsSome (value_at self.old name) }
         ensures before { Some result ≡ value_at self.old name }
         ensures now { self.new ≡ with_value self.old name value }
     {
-        let deadline = self.deadline(name.as_slice());
         let before = self
             .table
             .exchange(name.as_slice(), Stored::new(value, None));
-        self.dues.forget(name, deadline);
+        self.dues.forget(name, before.deadline());
         before.into_value()
     }
 
@@ -264,19 +257,26 @@ impl<N> KeyStore<N> {
         }
     }
 
-    /// Gives a key that is there this deadline, which is not 0, or none. An `Err` changes nothing.
+    /// Gives a key that is there this deadline, which is not 0, or none. An `Err` changes nothing. The
+    /// key is looked up once, and again before an `Err`.
     pub fn set_deadline(&mut self, key: &[u8], at: Option<u64>) -> Result<(), NoMemory>
         requires there { IsSome (value_at self.old key.now) }
         requires positive { at ≢ Some 0 }
         ensures ok { OnOk result (self.new ≡ with_deadline self.old key.now at) }
         ensures err { OnErr result (self.new ≡ self.old) }
     {
-        let before = self.deadline(key);
         let name = Name::new(self.alloc, key)?;
-        self.dues.insert(self.alloc, key, unless_same(at, before))?;
-        self.table.set_deadline(key, at);
-        self.dues.forget(name, unless_same(before, at));
-        Ok(())
+        let before = self.table.set_deadline(key, at);
+        match self.dues.insert(self.alloc, key, unless_same(at, before)) {
+            Ok(()) => {
+                self.dues.forget(name, unless_same(before, at));
+                Ok(())
+            }
+            Err(NoMemory) => {
+                let _ = self.table.set_deadline(key, before);
+                Err(NoMemory)
+            }
+        }
     }
 
     /// The key that is due first at this moment in milliseconds: of the keys whose deadline is at

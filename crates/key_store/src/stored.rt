@@ -57,27 +57,16 @@ impl<N> Stored<N> {
         value
     }
 
-    pub(crate) fn set_deadline(&mut self, deadline: Option<u64>)
+    // Gives it this deadline, or none, and gives back the one that it had.
+    pub(crate) fn set_deadline(&mut self, deadline: Option<u64>) -> Option<u64>
         requires positive { deadline ≢ Some 0 }
-        ensures { self.new ≡ record self.old { deadline = deadline } }
+        ensures before { result ≡ self.old.deadline }
+        ensures positive { result ≢ Some 0 }
+        ensures after { self.new ≡ record self.old { deadline = deadline } }
     {
+        let before = self.deadline();
         self.due = deadline.unwrap_or(0);
-    }
-
-    // Puts another value in the place of this, where there is no deadline, and gives this back.
-    // Where there is one, the other comes back with it.
-    pub(crate) fn renew(&mut self, value: Value<N>) -> Result<Value<N>, (u64, Value<N>)>
-        ensures before { IfOk result
-            (λ before. self.old ≡ record { value = before; deadline = None }) }
-        ensures ok { OnOk result (self.new ≡ record { value = value; deadline = None }) }
-        ensures dated { IfErr result (λ back. self.old.deadline ≡ Some back.0) }
-        ensures back { IfErr result (λ back. back.1 ≡ value) }
-        ensures err { OnErr result (self.new ≡ self.old) }
-    {
-        match self.deadline() {
-            Some(deadline) => Err((deadline, value)),
-            None => Ok(replace(&mut self.value, value)),
-        }
+        before
     }
 
     // Puts another entry in the place of this, and gives back this.

@@ -163,30 +163,17 @@ impl<N> Table<N> {
         }
     }
 
-    // Gives a key without a deadline this value, and gives back the one that it had. Where it has a
-    // deadline, nothing changes, and the value comes back with it. Takes no memory.
-    pub(crate) fn renew(&mut self, key: &[u8], value: Value<N>) -> Result<Value<N>, (u64, Value<N>)>
-        requires there { IsSome (entry_at self.old key.now) }
-        ensures before { IfOk result (λ before. entry_at self.old key.now
-            ≡ Some (record { value = before; deadline = None })) }
-        ensures ok { OnOk result (self.new ≡ with_value self.old key.now value) }
-        ensures dated { IfErr result (λ back. deadline_at self.old key.now ≡ Some back.0) }
-        ensures back { IfErr result (λ back. back.1 ≡ value) }
-        ensures err { OnErr result (self.new ≡ self.old) }
-    {
-        match self.get_mut(key) {
-            Some(stored) => stored.renew(value),
-            None => unreachable!(),
-        }
-    }
-
-    // Gives a key that is there this deadline, or none. Takes no memory.
-    pub(crate) fn set_deadline(&mut self, key: &[u8], at: Option<u64>)
+    // Gives a key this deadline, or none, where it is there, and gives back the one that it had. Takes
+    // no memory.
+    pub(crate) fn set_deadline(&mut self, key: &[u8], at: Option<u64>) -> Option<u64>
         requires positive { at ≢ Some 0 }
+        ensures before { result ≡ deadline_at self.old key.now }
+        ensures positive { result ≢ Some 0 }
         ensures set { self.new ≡ with_deadline self.old key.now at }
     {
-        if let Some(stored) = self.get_mut(key) {
-            stored.set_deadline(at);
+        match self.get_mut(key) {
+            Some(stored) => stored.set_deadline(at),
+            None => None,
         }
     }
 
