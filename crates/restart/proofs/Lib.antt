@@ -5,3 +5,4 @@ pub mod SameDisk
 pub mod Crash
 pub mod KeptLogs
 pub mod OpenLogs
+pub mod Calls

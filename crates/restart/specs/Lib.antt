@@ -1,3 +1,4 @@
 pub mod Restart
 pub mod OpenLog
+pub mod Calls
 pub mod inner

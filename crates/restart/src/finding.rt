@@ -5,9 +5,8 @@ ghost use Rattle.core_types.specs.Causes.{HasCauseFor};
 ghost use Rattle.core_types.specs.Keys.{no_keys};
 ghost use Rattle.core_types.specs.declared.stop.Stop.TheVariants as stop;
 ghost use Rattle.disk_model.specs.Told.{files_told};
-ghost use Rattle.disk_model.specs.Runs.{SameDisk};
 ghost use Rattle.restart.specs.OpenLog.{IsUnopened};
-ghost use Rattle.restart.specs.inner.Finding.{IsThereAs, StandsFor, opened_of};
+ghost use Rattle.restart.specs.inner.Finding.{IsThereAs, LooksOnly, StandsFor, opened_of};
 ghost use Rattle.restart.specs.declared.opening.OpenStop.TheVariants as stops;
 
 use crate::opening::{OpenStop, Opened};
@@ -57,7 +56,7 @@ pub(crate) fn find<D: Dir, R: Replayer>(
     ensures there { IfOk result (λ found. IsThereAs found (files_told (D.told dir.old))) }
     ensures keys { IfOk result (λ found. StandsFor R.meaning found (R.keys replayer.new)) }
     ensures stop { IfErr result (λ stop. IsUnopened R.meaning stop (files_told (D.told dir.old))) }
-    ensures same { SameDisk (D.told dir.old) (D.told dir.new) }
+    ensures looks { LooksOnly result (D.told dir.old) (D.told dir.new) }
     ensures spent { result ≡ Err (stops.Stopped stop.NumbersSpent)
         → R.is_spent replayer.new ≡ true }
     ensures cause { HasCauseFor stops.Dir (D.told dir.old).faults (D.told dir.new).faults result }

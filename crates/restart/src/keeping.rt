@@ -5,12 +5,14 @@ ghost use Rattle.std.specs.Prelude.{IfSome, OnOk, OnErr};
 ghost use Rattle.core_types.specs.Causes.{HasCause};
 ghost use Rattle.core_types.specs.Keys.{Keys};
 ghost use Rattle.disk_model.specs.Files.{with_file, Become, Stay};
-ghost use Rattle.disk_model.specs.Told.{Now, files_told, disk_told};
-ghost use Rattle.disk_model.specs.Runs.{LeavesOnly};
+ghost use Rattle.disk_model.specs.Past.{Call, Outcome};
+ghost use Rattle.disk_model.specs.Told.{Goes, Now, files_told, disk_told};
+ghost use Rattle.disk_model.specs.Runs.{GoesOnBy, LeavesOnly};
 ghost use Rattle.disk_model.specs.Safe.{IsSynced, IsSafe};
 ghost use Rattle.effect_log.specs.Replay.{Meaning};
 ghost use Rattle.restart.specs.Restart.{RestartsAsLeft};
-ghost use Rattle.restart.specs.inner.Finding.{IsThereAs, StandsFor, log_of};
+ghost use Rattle.restart.specs.Calls.{all_done, cutting_calls, keeping_calls};
+ghost use Rattle.restart.specs.inner.Finding.{IsThereAs, StandsFor, calls_to_keep, log_of};
 ghost use Rattle.restart.specs.inner.Keeping.{LeavesNothingNew, RestartsAsAtFirst};
 
 use crate::finding::Found;
@@ -27,6 +29,8 @@ pub(crate) fn make_safe<D: Dir>(dir: &mut D, found: &Found) -> Result<(), DirFau
     ensures safe { OnOk result (Now (IsSafe FileName.Log (log_of found.now)) (D.told dir.new)) }
     ensures crash { (replay : Meaning) (keys : Keys) → StandsFor replay found.now keys → LeavesOnly
         (D.told dir.old) (D.told dir.new) (RestartsAsLeft replay (disk_told (D.told dir.old))) }
+    ensures calls { OnOk result
+        (GoesOnBy (all_done (calls_to_keep found.now)) (D.told dir.old) (D.told dir.new)) }
     ensures cause { HasCause (D.told dir.old).faults (D.told dir.new).faults result }
 {
     match found {
@@ -49,6 +53,8 @@ fn keep_log<D: Dir>(dir: &mut D, bytes: &[u8], kept: u64) -> Result<(), DirFault
     ensures safe { OnOk result
         (Now (IsSafe FileName.Log (take kept bytes.now)) (D.told dir.new)) }
     ensures crash { RestartsAsAtFirst bytes.now kept (D.told dir.old) (D.told dir.new) }
+    ensures calls { OnOk result (GoesOnBy (all_done (keeping_calls (Some bytes.now) kept))
+        (D.told dir.old) (D.told dir.new)) }
     ensures cause { HasCause (D.told dir.old).faults (D.told dir.new).faults result }
 {
     sync_log(dir, bytes)?;
@@ -70,6 +76,8 @@ fn cut_tail<D: Dir>(dir: &mut D, bytes: &[u8], kept: u64) -> Result<(), DirFault
     ensures synced { Now (IsSynced FileName.Log bytes.now) (D.told dir.old) → OnOk result
         (Now (IsSynced FileName.Log (take kept bytes.now)) (D.told dir.new)) }
     ensures crash { RestartsAsAtFirst bytes.now kept (D.told dir.old) (D.told dir.new) }
+    ensures calls { OnOk result (GoesOnBy (all_done (cutting_calls (length bytes.now) kept))
+        (D.told dir.old) (D.told dir.new)) }
     ensures cause { HasCause (D.told dir.old).faults (D.told dir.new).faults result }
 {
     if kept == bytes.len() as u64 {
@@ -89,6 +97,8 @@ fn cut_log<D: Dir>(dir: &mut D, bytes: &[u8], kept: u64) -> Result<(), DirFault>
         ⊎ Become (with_file FileName.Log (take kept bytes.now))
         (files_told (D.told dir.old)) (files_told (D.told dir.new))) }
     ensures crash { RestartsAsAtFirst bytes.now kept (D.told dir.old) (D.told dir.new) }
+    ensures done { OnOk result
+        (Goes (Call.Cut FileName.Log kept) Outcome.Done (D.told dir.old) (D.told dir.new)) }
     ensures cause { HasCause (D.told dir.old).faults (D.told dir.new).faults result }
 {
     dir.cut(FileName::Log, kept)
@@ -100,6 +110,8 @@ fn sync_log<D: Dir>(dir: &mut D, bytes: &[u8]) -> Result<(), DirFault>
     ensures same { Stay (files_told (D.told dir.old)) (files_told (D.told dir.new)) }
     ensures synced { OnOk result (Now (IsSynced FileName.Log bytes.now) (D.told dir.new)) }
     ensures crash { LeavesNothingNew (D.told dir.old) (D.told dir.new) }
+    ensures done { OnOk result
+        (Goes (Call.Sync FileName.Log) Outcome.Done (D.told dir.old) (D.told dir.new)) }
     ensures cause { HasCause (D.told dir.old).faults (D.told dir.new).faults result }
 {
     dir.sync(FileName::Log)
@@ -111,6 +123,8 @@ fn sync_name<D: Dir>(dir: &mut D, bytes: &[u8]) -> Result<(), DirFault>
     ensures safe { Now (IsSynced FileName.Log bytes.now) (D.told dir.old) → OnOk result
         (Now (IsSafe FileName.Log bytes.now) (D.told dir.new)) }
     ensures crash { LeavesNothingNew (D.told dir.old) (D.told dir.new) }
+    ensures done { OnOk result
+        (Goes Call.SyncNames Outcome.Done (D.told dir.old) (D.told dir.new)) }
     ensures cause { HasCause (D.told dir.old).faults (D.told dir.new).faults result }
 {
     dir.sync_names()
@@ -128,6 +142,8 @@ fn begin_log<D: Dir>(dir: &mut D) -> Result<(), DirFault>
     ensures safe { OnOk result (Now (IsSafe FileName.Log []) (D.told dir.new)) }
     ensures crash { (replay : Meaning) → LeavesOnly
         (D.told dir.old) (D.told dir.new) (RestartsAsLeft replay (disk_told (D.told dir.old))) }
+    ensures calls { OnOk result
+        (GoesOnBy (all_done (keeping_calls None 0)) (D.told dir.old) (D.told dir.new)) }
     ensures cause { HasCause (D.told dir.old).faults (D.told dir.new).faults result }
 {
     dir.create(FileName::Log)?;

@@ -7,6 +7,7 @@ ghost use Rattle.core_types.specs.declared.stop.Stop.TheVariants as stop;
 ghost use Rattle.disk_model.specs.Told.{files_told, disk_told};
 ghost use Rattle.disk_model.specs.Runs.{LeavesOnly, SameDisk};
 ghost use Rattle.restart.specs.Restart.{RestartsAsLeft};
+ghost use Rattle.restart.specs.Calls.{AsksToOpen, LookAsks};
 ghost use Rattle.restart.specs.OpenLog.{Finds, HasOpened, IsUnopened, OpenStops, stop_of_read};
 ghost use Rattle.restart.specs.declared.opening.OpenStop.TheVariants as stops;
 
@@ -95,6 +96,8 @@ pub fn open_log<D: Dir, R: Replayer>(
         OpenStops R.meaning stop (D.told dir.old) (D.told dir.new)) }
     ensures crash { LeavesOnly (D.told dir.old) (D.told dir.new)
         (RestartsAsLeft R.meaning (disk_told (D.told dir.old))) }
+    ensures calls { IfOk result (λ opened.
+        AsksToOpen opened.kept (D.told dir.old) (D.told dir.new)) }
     ensures spent { result ≡ Err (stops.Stopped stop.NumbersSpent)
         → R.is_spent replayer.new ≡ true }
     ensures cause { HasCauseFor stops.Dir (D.told dir.old).faults (D.told dir.new).faults result }
@@ -116,6 +119,7 @@ pub fn look<D: Dir, R: Replayer>(
         Finds R.meaning (files_told (D.told dir.old)) (R.keys replayer.new) opened) }
     ensures stop { IfErr result (λ stop. IsUnopened R.meaning stop (files_told (D.told dir.old))) }
     ensures same { SameDisk (D.told dir.old) (D.told dir.new) }
+    ensures calls { LookAsks result (D.told dir.old) (D.told dir.new) }
     ensures spent { result ≡ Err (stops.Stopped stop.NumbersSpent)
         → R.is_spent replayer.new ≡ true }
     ensures cause { HasCauseFor stops.Dir (D.told dir.old).faults (D.told dir.new).faults result }
