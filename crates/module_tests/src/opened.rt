@@ -21,7 +21,7 @@ fn number<C: Context<Counter>>(handle: &Handle<C, Counter>) -> u64 {
 
 // Puts a counter in.
 fn put<C: Context<Counter>>(alloc: Global, handle: &mut Handle<C, Counter>) -> Result<(), NoMemory>
-    requires { IsString (opened C.told C.held handle.old).key }
+    requires { IsString (opened C.told C.held C.typed handle.old).key }
 {
     match handle.set_native(alloc, Counter::new(5)) {
         Ok(()) => Ok(()),
@@ -52,7 +52,7 @@ fn live<C: Context<Counter>>(
     alloc: Global,
     handle: &mut Handle<C, Counter>,
 ) -> Result<[u64; 3], NoMemory>
-    requires { IsString (opened C.told C.held handle.old).key }
+    requires { IsString (opened C.told C.held C.typed handle.old).key }
 {
     put(alloc, handle)?;
     let before = number(handle);
