@@ -1,5 +1,5 @@
 -- That the counter obeys the laws.
-use Rattle.std.proofs.Common.{◌≡◌, ℕ, suc, zero, pos, ◌<◌, ◌≤◌, ◌^◌, length, true, [], ◌∷◌, Option, Some, None, IfOk, refl, sym, ap, ◌∙◌, true≢false, arith}
+use Rattle.std.proofs.Common.{◌≡◌, ℕ, suc, zero, pos, ◌<◌, ◌≤◌, ◌^◌, length, true, [], ◌∷◌, Option, Some, None, IfOk, refl, sym, ap, true≢false, arith}
 use Rattle.std.specs.Prelude.{codes}
 use Rattle.std.specs.Cmp.Lexicographic.{bytes_decides}
 use Rattle.std.specs.Fmt.{decimal}
@@ -8,7 +8,6 @@ use Rattle.std.specs.Option.{option_and_then, option_map}
 use Rattle.byte_text.proofs.Decimals.{decimal-short, u64_of-decimal}
 use Rattle.core_types.specs.CommandRow.{writing}
 use Rattle.core_types.specs.Keyspace.{IsString}
-use Rattle.core_types.specs.Limits.{IsWithinLimits}
 use Rattle.core_types.specs.declared.tagged.Tagged.TheVariants as tagged
 use Rattle.sequences.specs.Words.{word}
 use Rattle.type_ids.proofs.Names.{named-found}
