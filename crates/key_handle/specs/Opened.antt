@@ -14,21 +14,23 @@ use Rattle.key_handle.specs.declared.handle.Mode.{Mode}
 use Rattle.key_handle.specs.declared.handle.Mode.TheVariants as mode
 use Rattle.key_handle.specs.declared.handle.Handle.{Handle}
 
--- an opened key: what its context tells, which references that holds, the reference to it, the key,
--- and what it is open for
+-- an opened key: what its context tells, which references that holds, whether each value in it has
+-- the type that it was put in with, the reference to it, the key, and what it is open for
 pub record Opened : Type 0 where
   pub told : Told
   pub held : List GName
+  pub typed : Bool
   pub reference : GName
   pub key : List ℕ
   pub mode : Mode
 
 module _ {C V : Type 0} where
   -- a handle as contracts see it
-  abbrev pub opened : (C → Told) → (C → List GName) → Handle C V → Opened
-  opened told held handle = record {
+  abbrev pub opened : (C → Told) → (C → List GName) → (C → Bool) → Handle C V → Opened
+  opened told held typed handle = record {
     told = told handle.ctx.now;
     held = held handle.ctx.now;
+    typed = typed handle.ctx.now;
     reference = handle.ctx.ghost_name;
     key = handle.key.now;
     mode = handle.mode;
@@ -44,10 +46,11 @@ key_value opened = value_at opened.told.seen.keys opened.key
 abbrev pub key_kind : Opened → Option Kind
 key_kind opened = kind_at opened.told.seen.keys opened.key
 
--- the key's value is now this one, and its deadline stays
-abbrev pub native_changed : Native → Opened → Opened
-native_changed native opened =
-    record opened { told = with_native opened.key native opened.told }
+-- The key's value is now this one, and its deadline stays. Each value then has the type that it was
+-- put in with, or one does not.
+abbrev pub native_changed : Native → Bool → Opened → Opened
+native_changed native typed opened =
+    record opened { told = with_native opened.key native opened.told; typed = typed }
 
 -- a value was put in, and there is a serial for another one or not
 abbrev pub native_put : Native → Bool → Opened → Opened

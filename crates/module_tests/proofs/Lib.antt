@@ -1,4 +1,3 @@
 pub mod Shelves
-pub mod CounterRuns
 pub mod Lines
 pub mod TextKeys

@@ -1,6 +1,7 @@
 -- Words that are looked up among commands. Serves the clause of at_work::is_call.
 use Rattle.std.proofs.Common.{◌≡◌, ℕ, ◌<◌, ◌≤◌, arith, Bool, true, false, List, [], ◌∷◌, length, map, Option, Some, refl, sym, ap, ◌∙◌, true≢false, if◌then◌else◌}
 use Rattle.std.specs.Prelude.{◌&&◌, ◌==◌, find, nat_le}
+use Rattle.std.specs.Char.{to_ascii_uppercase}
 use Rattle.std.specs.List.{AllByRecursion, list_all}
 use Rattle.std.specs.Option.{option_map}
 use Rattle.std.specs.Str.{bytes_eq}
@@ -8,7 +9,8 @@ use Rattle.std.proofs.lemmas.Bool.Decides.{nat_tests}
 use Rattle.core_types.specs.CommandRow.{row_of_spec}
 use Rattle.core_types.specs.Keyspace.{IsString, longest}
 use Rattle.core_types.specs.declared.command_spec.CommandSpec.{CommandSpec}
-use Rattle.module_laws.specs.Named.{row_named}
+use Rattle.sequences.specs.Words.{word}
+use Rattle.module_laws.specs.Named.{command_name, row_named}
 use Rattle.module_laws.specs.Words.{Bytes, Words}
 
 abbrev pub is_spec : Bytes → CommandSpec → Bool
@@ -44,3 +46,9 @@ all_short (word ∷ words) is =
 
 pub some_words : (count : ℕ) → (count == 0) ≡ false → 0 < count
 some_words count is = grind (arith, nat_tests)
+
+pub named : (words : Words) (name : Bytes) → 0 < length words
+    → name ≡ map to_ascii_uppercase (word 0 words) → name ≡ command_name words
+unfolding word
+named [] name some is = absurd (omega (arith, some))
+named (w ∷ words) name some is = is

@@ -10,13 +10,13 @@ ghost use Rattle.module_laws.specs.Laws.{IsCall};
 ghost use Rattle.module_laws.specs.Sets.{HasPlace};
 ghost use Rattle.module_laws.specs.Types.{is_short};
 
-use crate::counter::upper;
 use crate::shelf::Shelf;
 use byte_text::read_i64;
 use core_types::{
     Args, Blob, CommandSpec, Items, NoMemory, Note, NoteClass, Part, Reply, Stop, Tagged,
 };
 use module_laws::{ApplyStop, LoadStop, ModuleSet, Verdict, name_of};
+use one_key::upper;
 use std::alloc::Global;
 use std::process::Abort;
 
@@ -122,8 +122,8 @@ fn answers<S: ModuleSet>(
     Ok((answers, ctx.added()))
 }
 
-// Gives a value to its module.
-fn give<S: ModuleSet>(rt: &impl Abort, set: &mut S, value: S::Value) {
+/// Gives a value to its module.
+pub fn give<S: ModuleSet>(rt: &impl Abort, set: &mut S, value: S::Value) {
     let owner = S::owner(&value);
     assert!(rt; set.freed(owner) < set.made(owner));
     set.free(owner, value);

@@ -3,11 +3,12 @@
 ghost use Rattle.module_laws.specs.Sets.{HasPlace};
 
 use crate::at_work::{asked, end, kept, lived, numbers, run};
-use crate::counter::Counters;
 use crate::least::Least;
 use crate::shelf::Shelf;
 use core_types::{Items, Stop};
+use key_counter::Counter;
 use module_laws::{ModuleSet, One, Two, TwoFault};
+use one_key::OneKey;
 use std::alloc::Global;
 use std::process::Abort;
 use std::test::Fail;
@@ -67,8 +68,8 @@ fn refused<A: ModuleSet + Drop, B: ModuleSet + Drop>(a: A, b: B) -> Option<(TwoF
 }
 
 // The counters, as a set that has made this many values.
-fn counters(rt: &impl Abort, alloc: Global, made: u8) -> Result<One<Counters>, Stop> {
-    let mut set = One::new(Counters::new());
+fn counters(rt: &impl Abort, alloc: Global, made: u8) -> Result<One<OneKey<Counter>>, Stop> {
+    let mut set = One::new(OneKey::<Counter>::new());
     let seven = numbers(alloc, &[7])?;
     for _ in 0..made {
         let _ = kept(rt, alloc, &mut set, 0, &seven, b"COUNTER.DROP k")?;
@@ -85,20 +86,20 @@ fn joined<A: ModuleSet + Drop, B: ModuleSet + Drop>(a: A, b: B) -> Option<Two<A,
 }
 
 // The two modules as one set, in both orders.
-type CounterFirst = Two<One<Counters>, One<Least>>;
+type CounterFirst = Two<One<OneKey<Counter>>, One<Least>>;
 
-type LeastFirst = Two<One<Least>, One<Counters>>;
+type LeastFirst = Two<One<Least>, One<OneKey<Counter>>>;
 
 fn counter_first() -> Option<CounterFirst> {
-    joined(One::new(Counters::new()), One::new(Least::new()))
+    joined(One::new(OneKey::<Counter>::new()), One::new(Least::new()))
 }
 
 fn least_first() -> Option<LeastFirst> {
-    joined(One::new(Least::new()), One::new(Counters::new()))
+    joined(One::new(Least::new()), One::new(OneKey::<Counter>::new()))
 }
 
 // Sets, raises, reads, does not set to what is no number, does not raise what is not there, drops,
-// reads again, and moves in vain, since the context knows no built-in command.
+// reads again, and does not drop what is not there.
 #[test]
 fn counter_lives_alone_and_in_either_half(rt: HostRuntime) -> Result<(), Fail> {
     let alloc = rt.alloc();
@@ -110,7 +111,7 @@ fn counter_lives_alone_and_in_either_half(rt: HostRuntime) -> Result<(), Fail> {
         b"COUNTER.RAISE b",
         b"COUNTER.DROP a",
         b"COUNTER.GET a",
-        b"COUNTER.MOVE a b",
+        b"counter.DROP a",
     ];
     let answers = [
         [1, 1, 0],
@@ -120,10 +121,10 @@ fn counter_lives_alone_and_in_either_half(rt: HostRuntime) -> Result<(), Fail> {
         [1, 0, 0],
         [1, 1, 0],
         [6, 0, 0],
-        [4, 47, 0],
+        [1, 0, 0],
     ];
-    let told = (answers, (3, 3), (1, 1));
-    let mut alone = One::new(Counters::new());
+    let told = (answers, (3, 4), (1, 1));
+    let mut alone = One::new(OneKey::<Counter>::new());
     let mut left = counter_first().expect(&rt, "they are apart");
     let mut right = least_first().expect(&rt, "they are apart");
     assert!(rt; lived(&rt, alloc, &mut alone, 0, lines)? == told);

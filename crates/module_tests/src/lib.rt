@@ -3,15 +3,12 @@
 //!
 //! A crate with tests is proved twice. So these stand here, where only the tests themselves are
 //! proved, with one context (`shelf`) and one way to set modules to work (`at_work`) for all.
-//! `counter` is a whole module, as docs/MODULES.md says how to write one.
 #![tactic(auto)]
 
 #[cfg(test)]
 mod at_work;
 #[cfg(test)]
 mod boxes;
-#[cfg(test)]
-mod counter;
 #[cfg(test)]
 mod counters;
 #[cfg(test)]

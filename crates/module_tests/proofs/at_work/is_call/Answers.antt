@@ -4,8 +4,7 @@ use Rattle.std.specs.Char.{to_ascii_uppercase}
 use Rattle.std.specs.Option.{option_copied, option_map}
 use Rattle.core_types.specs.CommandRow.{row_of_spec, takes}
 use Rattle.module_laws.specs.Named.{row_named}
-use Rattle.module_tests.proofs.CounterRuns.{named}
-use Rattle.module_tests.proofs.Lines.{all_short, row_found, some_words}
+use Rattle.module_tests.proofs.Lines.{all_short, named, row_found, some_words}
 use Rattle.module_tests.proofs.at_work.is_call.Goals as goal
 
 pub returns-in-Some : goal.returns-in-Some

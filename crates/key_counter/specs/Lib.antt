@@ -1,0 +1,2 @@
+pub mod KeyCounter
+pub mod KeyCounterLaws
