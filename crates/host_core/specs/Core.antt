@@ -1,5 +1,5 @@
 -- What the core of a host holds, and what a step makes of it.
-use Rattle.std.specs.Prelude.{◌≡◌, ◌<◌, refl, ⊤, ℕ, List, [], false, Option, Some, None, IsSome}
+use Rattle.std.specs.Prelude.{◌≡◌, ◌<◌, ◌≤◌, refl, ⊤, ℕ, List, [], false, Option, Some, None, IsSome}
 use Rattle.std.specs.Coded.{Coded, code_by, coded×, coded_ℕ, coded_list}
 use Rattle.std.specs.FinMap as finite
 use Rattle.core_types.specs.Keys.{Keys, Native}
@@ -53,6 +53,11 @@ abbrev pub IsServable : Event → Type 0
 IsServable (event.Arrive client words) = IsRequest words
 IsServable (event.Section place text) = IsString text
 IsServable _ = ⊤
+
+-- a client comes whose number is not above all that joined
+abbrev pub IsTurnedAway : Event → Register → Type 0
+IsTurnedAway (event.Join client) register = client ≤ register.last
+IsTurnedAway _ register = ⊥
 
 -- up to where a client may take its replies; one that is not there has none
 abbrev pub may_of : Option Listed → ℕ

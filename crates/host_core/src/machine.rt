@@ -1,6 +1,6 @@
 //! The core of a host: the machine over its keys and its clients.
 
-ghost use Rattle.std.specs.Prelude.{◌≡◌, ◌≢◌, ◌<◌, ◌++◌, ℕ, length, take, drop, min, true, Ok, Err, Some, IfOk, IfErr, OnOk, OnErr, IsSome};
+ghost use Rattle.std.specs.Prelude.{◌≡◌, ◌≢◌, ◌<◌, ◌≤◌, ◌++◌, ℕ, length, take, drop, min, true, Ok, Err, Some, IfOk, IfErr, OnOk, OnErr, IsOk, IsSome};
 ghost use Rattle.core_types.specs.Keys.{no_keys, with_entry, without};
 ghost use Rattle.core_types.specs.declared.event.Answer.TheVariants as answer;
 ghost use Rattle.core_types.specs.declared.event.Event.TheVariants as event;
@@ -14,7 +14,8 @@ ghost use Rattle.resp_codec.specs.ReplyText.{text};
 ghost use Rattle.client_book.specs.Client.{passes};
 ghost use Rattle.client_book.specs.Register.{changes, frees_all, free_of, listed, nobody, told_of};
 ghost use Rattle.host_core.specs.Clients.{client_at, is_served};
-ghost use Rattle.host_core.specs.Core.{AreJoined, IsServable, KeepsClients, Steps, state_of};
+ghost use Rattle.host_core.specs.Core.{AreJoined, IsServable, IsTurnedAway, KeepsClients};
+ghost use Rattle.host_core.specs.Core.{Steps, state_of};
 ghost use Rattle.host_core.specs.Replay.{replay};
 ghost use Rattle.host_core.specs.inner.Giving.{heard, quiet, register_told};
 
@@ -97,12 +98,14 @@ impl Core {
 
     /// Makes one step. What it replies is told to the clients, who may take it after the next
     /// flush. It stops for want of memory alone: the clients and the moment are then as they were,
-    /// nothing is said of the keys, and no further step may be asked for.
+    /// nothing is said of the keys, and no further step may be asked for. A client that may not
+    /// join is told so without memory.
     pub fn step(&mut self, event: &Event) -> Result<Stepped, Stop>
         requires servable { IsServable event.now }
         ensures steps { IfOk result
             (λ stepped. Steps self.old event.now stepped self.new) }
         ensures memory { IfErr result (λ stop. stop ≡ stops.Memory) }
+        ensures turned_away { IsTurnedAway event.now self.old.register → IsOk result }
         ensures err { OnErr result (KeepsClients self.old self.new) }
     {
         match event {
@@ -213,6 +216,7 @@ impl Core {
     fn join(&mut self, client: u64) -> Result<Stepped, NoMemory>
         ensures steps { IfOk result
             (λ stepped. Steps self.old (event.Join client) stepped self.new) }
+        ensures turned_away { client ≤ self.old.register.last → IsOk result }
         ensures err { OnErr result (KeepsClients self.old self.new) }
     {
         if let Err(fault) = self.book.join(client) {
@@ -310,6 +314,7 @@ impl Core {
 fn not_joined(alloc: Global, fault: JoinFault) -> Result<Stepped, NoMemory>
     ensures stale { IfOk result (λ stepped. (fault ≡ JoinFault.Stale)
         × (stepped ≡ quiet answer.StaleClient)) }
+    ensures turned_away { fault ≡ JoinFault.Stale → IsOk result }
 {
     match fault {
         JoinFault::Stale => Ok(Stepped::answered(alloc, Answer::StaleClient)),
