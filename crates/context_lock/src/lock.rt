@@ -2,18 +2,29 @@
 
 ghost use Rattle.std.specs.Prelude.{◌≡◌, ℕ, ◌-◌, ◌≤◌, [], ◌∷◌, Some, IfOk, IfErr};
 
+use crate::bells::Bells;
 use crate::historic::{Historic, end_of};
 use crate::inside::{Inside, Turn};
 use crate::pass::Pass;
 use crate::turns::{Begin, Cut, Glue, Turns};
 use crate::view::View;
 use atomic_table::{Refused, Table};
+use crossbeam_utils::sync::EventCount;
 use std::alloc::Global;
+use std::hint::spin_loop;
 use std::sync::Wait;
+use std::sync::atomic::AtomicU64;
+use std::sync::atomic::Ordering::SeqCst;
+
+// Looks at the turn before a thread parks.
+const SPINS: u32 = 300;
 
 /// A state that threads share. Who has a pass may enter, one at a time.
 pub struct ContextLock<S: Historic> {
     pub(crate) table: Table<Option<S>, View, u64, Turns, Global>,
+    // How many threads park until the turn is free, or are about to.
+    waiting: AtomicU64,
+    bells: Bells,
     ghost sized: { (table.shared.table_id.words ≡ 2) × (table.shared.table_id.slots ≡ 1) },
 }
 
@@ -49,12 +60,23 @@ impl<S: Historic> ContextLock<S> {
         ensures back { IfErr result (λ back. back ≡ state) }
     {
         let opened = end_of(&state);
+        let Ok(bells) = Bells::new(alloc) else {
+            return Err(state);
+        };
         let Ok(mut slots) = Vec::with_capacity(alloc, 1) else {
             return Err(state);
         };
         slots.push_reserved(Some(state));
         match Table::new(alloc, &[0, opened], slots, &opened) {
-            Ok((table, seat)) => Ok((ContextLock { table }, Pass::of(seat))),
+            Ok((table, seat)) => {
+                let waiting = AtomicU64::new(0);
+                let lock = ContextLock {
+                    table,
+                    waiting,
+                    bells,
+                };
+                Ok((lock, Pass::of(seat)))
+            }
             Err(Refused { slots }) => Err(only(slots)),
         }
     }
@@ -75,20 +97,72 @@ impl<S: Historic> ContextLock<S> {
         Ok(Inside { turn, state })
     }
 
+    // The same, with some hundred looks at the turn.
+    fn spin(&self, pass: Pass) -> Result<Inside<'_, S>, Pass>
+        requires lock { pass.lock ≡ lock_id self.now }
+        ensures comes { IfOk result (λ inside. Comes S.history S.shows pass inside) }
+        ensures back { IfErr result (λ back. back ≡ pass) }
+    {
+        for _ in 0..SPINS {
+            if self.table.shared.peek(0) == 0 {
+                return self.try_enter(pass);
+            }
+            spin_loop();
+        }
+        Err(pass)
+    }
+
+    // Tries, and parks where the turn is not free, until it has the turn. The thread is counted
+    // before it tries. So who gives the turn back either finds it counted and wakes one, or gave
+    // the turn back before the try.
+    fn park<R: Wait>(&self, rt: &R, pass: Pass) -> Inside<'_, S>
+        requires lock { pass.lock ≡ lock_id self.now }
+        ensures comes { Comes S.history S.shows pass result }
+    {
+        self.waiting.fetch_add(1, SeqCst);
+        let mut pass = pass;
+        for _ in rt.forever() {
+            pass = match self.try_enter(pass) {
+                Ok(inside) => {
+                    self.waiting.fetch_sub(1, SeqCst);
+                    return inside;
+                }
+                Err(pass) => pass,
+            };
+            self.table.shared.park(rt, 0, 1);
+        }
+        unreachable!()
+    }
+
     /// Waits for the turn, and takes it with the state. All that the pass has seen stands in the
-    /// state's history, and what its holder added, at its numbers, but for what was cut off.
+    /// state's history, and what its holder added, at its numbers, but for what was cut off. A
+    /// thread that waits for long sleeps.
     pub fn enter<R: Wait>(&self, rt: &R, pass: Pass) -> Inside<'_, S>
         requires lock { pass.lock ≡ lock_id self.now }
         ensures comes { Comes S.history S.shows pass result }
     {
-        let mut pass = pass;
-        for _ in rt.forever() {
-            pass = match self.try_enter(pass) {
-                Ok(inside) => return inside,
-                Err(pass) => pass,
-            };
+        match self.spin(pass) {
+            Ok(inside) => inside,
+            Err(pass) => self.park(rt, pass),
         }
-        unreachable!()
+    }
+
+    // Wakes one thread that parks until the turn is free, if there is one.
+    pub(crate) fn wake(&self) {
+        if self.waiting.load(SeqCst) != 0 {
+            self.table.shared.wake_one(0);
+        }
+    }
+
+    /// The bell of a client, which it shares with those whose numbers are alike modulo 1,024. Take
+    /// the key before a stay, and wait after a stay that found nothing to do.
+    pub fn client_bell(&self, client: u64) -> &EventCount {
+        self.bells.client(client)
+    }
+
+    /// The bell of the workers.
+    pub fn worker_bell(&self) -> &EventCount {
+        self.bells.workers()
     }
 
     /// The first pass keeps all parts but one, and the second has one, and has seen as much.
@@ -124,7 +198,11 @@ impl<S: Historic> ContextLock<S> {
         ensures once { (number : ℕ) → times number pass.mine
             ≡ once_within (opened self) (end (S.history result)) number }
     {
-        let ContextLock { table } = self;
+        let ContextLock {
+            table,
+            waiting: _,
+            bells: _,
+        } = self;
         let mut closed = table.close_with(pass.into_seat::<S>());
         let state = closed.take(0).unwrap();
         closed.free();

@@ -10,6 +10,7 @@ use std::marker::Model;
 /// The right to enter the lock that gave it. It has no bytes. Contracts see it as what its holder
 /// knows: which lock it is of, how many events it has seen, its parts, the events that its holder
 /// added, with their numbers, and its holder's stays.
+#[derive(Drop)]
 pub struct Pass {
     badge: Badge<View>,
 }

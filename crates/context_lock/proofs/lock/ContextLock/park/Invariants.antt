@@ -1,6 +1,6 @@
 -- the pass is the one that was handed in
 use Rattle.std.proofs.Common.{◌≡◌}
-use Rattle.context_lock.proofs.lock.ContextLock.enter.Given as goal
+use Rattle.context_lock.proofs.lock.ContextLock.park.Given as goal
 
 abbrev pub invariant-loop : goal.invariant-loop
 invariant-loop g l =
