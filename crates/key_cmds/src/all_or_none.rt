@@ -58,7 +58,7 @@ impl<'a> Model for Begun<'a> {
 }
 
 /// Sets the pairs, one after the other: each key has the string of its last pair, and no deadline.
-/// An `Err` changes nothing. A key is looked up twice where it is put, and otherwise three times.
+/// An `Err` changes nothing. A key is looked up twice, and once more before an `Err` where it was put.
 pub(crate) fn set_pairs<N>(
     alloc: Global,
     keys: &mut KeyStore<N>,
