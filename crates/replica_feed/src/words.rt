@@ -1,0 +1,108 @@
+//! The words of a request as a frame.
+
+ghost use Rattle.std.specs.Prelude.{◌≡◌, length, IfOk};
+ghost use Rattle.replica_feed.specs.Reading.{IsJudged};
+
+use crate::fault::FrameFault;
+use crate::frame::Frame;
+use byte_text::read_u64;
+use core_types::{Args, Blob, Effects, NoMemory, Sequence};
+use effect_log::{LogReader, NextUnit, Reason};
+use std::alloc::Global;
+
+/// What words are.
+#[derive(Drop)]
+pub(crate) enum Judged {
+    /// This frame.
+    Frame(Frame),
+    /// No frame.
+    Bad(FrameFault),
+}
+
+// What the text of a Unit is.
+#[derive(Drop)]
+enum Text {
+    /// One whole unit of these effects, or nothing.
+    Unit(Effects),
+    /// More than a unit, or less than one.
+    Other,
+    /// It has a fault of form.
+    Bad(Reason),
+}
+
+/// Reads the words of a request as a frame.
+pub(crate) fn judge(alloc: Global, words: &Args) -> Result<Judged, NoMemory>
+    ensures { IfOk result (IsJudged words.now) }
+{
+    if words.len() == 4 && words.word(0) == b"FULL".as_slice() {
+        return judge_full(alloc, words);
+    }
+    if words.len() == 5 && words.word(0) == b"UNIT".as_slice() {
+        return judge_unit(alloc, words);
+    }
+    Ok(Judged::Bad(FrameFault::Shape))
+}
+
+fn judge_full(alloc: Global, words: &Args) -> Result<Judged, NoMemory>
+    requires { length words.now ≡ 4 }
+{
+    match (read_u64(words.word(1)), read_u64(words.word(2))) {
+        (Some(run), Some(number)) => Ok(Judged::Frame(Frame::Full {
+            run,
+            number,
+            file: Blob::from_slice(alloc, words.word(3))?,
+        })),
+        _ => Ok(Judged::Bad(FrameFault::Shape)),
+    }
+}
+
+fn judge_unit(alloc: Global, words: &Args) -> Result<Judged, NoMemory>
+    requires { length words.now ≡ 5 }
+{
+    match (
+        read_u64(words.word(1)),
+        read_u64(words.word(2)),
+        read_u64(words.word(3)),
+    ) {
+        (Some(run), Some(from), Some(to)) => {
+            Ok(unit_of(run, from, to, read_text(alloc, words.word(4))?))
+        }
+        _ => Ok(Judged::Bad(FrameFault::Shape)),
+    }
+}
+
+fn unit_of(run: u64, from: u64, to: u64, text: Text) -> Judged {
+    match text {
+        Text::Unit(effects) if from < to => Judged::Frame(Frame::Unit {
+            run,
+            from,
+            to,
+            effects,
+        }),
+        Text::Bad(why) => Judged::Bad(FrameFault::Text(why)),
+        _ => Judged::Bad(FrameFault::Shape),
+    }
+}
+
+fn read_text(alloc: Global, text: &[u8]) -> Result<Text, NoMemory> {
+    let mut reader = LogReader::new(alloc, text, 0);
+    match reader.next()? {
+        NextUnit::Unit(effects) => read_rest(&mut reader, effects),
+        NextUnit::End => Ok(Text::Unit(Sequence::new(alloc))),
+        NextUnit::Tail(_) => Ok(Text::Other),
+        NextUnit::Bad(_, why) => Ok(Text::Bad(why)),
+    }
+}
+
+// Reads on behind the first unit: a fault of form anywhere is told before that there are more.
+fn read_rest(reader: &mut LogReader, first: Effects) -> Result<Text, NoMemory> {
+    let mut alone = true;
+    loop {
+        match reader.next()? {
+            NextUnit::Unit(_) => alone = false,
+            NextUnit::End if alone => return Ok(Text::Unit(first)),
+            NextUnit::End | NextUnit::Tail(_) => return Ok(Text::Other),
+            NextUnit::Bad(_, why) => return Ok(Text::Bad(why)),
+        }
+    }
+}
