@@ -4,3 +4,4 @@ pub mod Units
 pub mod Runs
 pub mod Applying
 pub mod Reading
+pub mod inner

@@ -84,12 +84,16 @@ pub record IsBadFrame (old new : Feed) (offset : ℕ) (why : FrameFault) : Type 
   pub comes : ComesNext old.held old.stream new.stream offset words
   pub fault : IsFaultOf words why
 
--- no request, where one begins at this offset
-pub record IsBadRequest (old new : Feed) (offset : ℕ) (kind : BadRequest) : Type 0 where
+-- what comes next is no request, and its first byte stands at this offset
+pub record BreaksFrom (old new : Stream) (offset : ℕ) (kind : BadRequest) : Type 0 where
   pub place : ℕ
+  pub refuses : Refuses old new kind place
+  pub offset_is : offset ≡ new.passed
+
+-- nothing is held, and what comes next is no request
+pub record IsBadRequest (old new : Feed) (offset : ℕ) (kind : BadRequest) : Type 0 where
   pub none : old.held ≡ None
-  pub refuses : Refuses old.stream new.stream kind place
-  pub offset_is : offset ≡ new.stream.passed
+  pub breaks : BreaksFrom old.stream new.stream offset kind
 
 abbrev pub BreaksOff : Feed → Feed → ℕ → FrameFault → Type 0
 BreaksOff old new offset (fault.Request kind) = IsBadRequest old new offset kind
@@ -101,7 +105,15 @@ abbrev pub EndsAt : Option (ℕ × FrameFault) → Feed → Feed → ℕ → Fra
 EndsAt (Some bad) old new offset why = (new ≡ old) × (bad ≡ (offset, why))
 EndsAt None old new offset why = BreaksOff old new offset why × (new.bad ≡ Some (offset, why))
 
--- Memory ran out: behind empty requests nothing was passed, or a request that is held.
-abbrev pub LeavesOff : Option (ℕ × List (List ℕ)) → Stream → Stream → Type 0
-LeavesOff None old new = SkipsOnly old new
-LeavesOff (Some held) old new = TakesAt old new held.0 held.1
+-- What is held stays; where nothing was held, empty requests were passed and nothing else, or a
+-- request that is held now.
+abbrev pub KeepsPlace : Option (ℕ × List (List ℕ)) → Option (ℕ × List (List ℕ))
+    → Stream → Stream → Type 0
+KeepsPlace (Some was) now old new = (now ≡ Some was) × (new ≡ old)
+KeepsPlace None None old new = SkipsOnly old new
+KeepsPlace None (Some held) old new = TakesAt old new held.0 held.1
+
+-- memory ran out: no request is lost, and there is no bad place that was not there
+pub record LeavesOff (old new : Feed) : Type 0 where
+  pub place : KeepsPlace old.held new.held old.stream new.stream
+  pub bad : new.bad ≡ old.bad

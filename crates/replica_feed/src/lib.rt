@@ -19,6 +19,7 @@ mod fronts;
 mod laws;
 mod reader;
 mod replica;
+mod requests;
 mod units;
 mod words;
 mod writing;

@@ -1,7 +1,10 @@
 //! The words of a request as a frame.
 
-ghost use Rattle.std.specs.Prelude.{◌≡◌, length, IfOk};
+ghost use Rattle.std.specs.Prelude.{◌≡◌, length, true, IfOk};
+ghost use Rattle.sequences.specs.Words.{word};
+ghost use Rattle.replica_feed.specs.Frames.{full_word, unit_word};
 ghost use Rattle.replica_feed.specs.Reading.{IsJudged};
+ghost use Rattle.replica_feed.specs.inner.Texts.{IsText, IsRead, unit_of};
 
 use crate::fault::FrameFault;
 use crate::frame::Frame;
@@ -19,9 +22,9 @@ pub(crate) enum Judged {
     Bad(FrameFault),
 }
 
-// What the text of a Unit is.
+/// What the text of a Unit is.
 #[derive(Drop)]
-enum Text {
+pub(crate) enum Text {
     /// One whole unit of these effects, or nothing.
     Unit(Effects),
     /// More than a unit, or less than one.
@@ -44,7 +47,9 @@ pub(crate) fn judge(alloc: Global, words: &Args) -> Result<Judged, NoMemory>
 }
 
 fn judge_full(alloc: Global, words: &Args) -> Result<Judged, NoMemory>
-    requires { length words.now ≡ 4 }
+    requires count { length words.now ≡ 4 }
+    requires name { word 0 words.now ≡ full_word }
+    ensures { IfOk result (IsJudged words.now) }
 {
     match (read_u64(words.word(1)), read_u64(words.word(2))) {
         (Some(run), Some(number)) => Ok(Judged::Frame(Frame::Full {
@@ -57,7 +62,9 @@ fn judge_full(alloc: Global, words: &Args) -> Result<Judged, NoMemory>
 }
 
 fn judge_unit(alloc: Global, words: &Args) -> Result<Judged, NoMemory>
-    requires { length words.now ≡ 5 }
+    requires count { length words.now ≡ 5 }
+    requires name { word 0 words.now ≡ unit_word }
+    ensures { IfOk result (IsJudged words.now) }
 {
     match (
         read_u64(words.word(1)),
@@ -65,13 +72,16 @@ fn judge_unit(alloc: Global, words: &Args) -> Result<Judged, NoMemory>
         read_u64(words.word(3)),
     ) {
         (Some(run), Some(from), Some(to)) => {
-            Ok(unit_of(run, from, to, read_text(alloc, words.word(4))?))
+            let text = read_text(alloc, words.word(4))?;
+            Ok(unit_of(run, from, to, text))
         }
         _ => Ok(Judged::Bad(FrameFault::Shape)),
     }
 }
 
-fn unit_of(run: u64, from: u64, to: u64, text: Text) -> Judged {
+fn unit_of(run: u64, from: u64, to: u64, text: Text) -> Judged
+    ensures { result ≡ unit_of run from to text }
+{
     match text {
         Text::Unit(effects) if from < to => Judged::Frame(Frame::Unit {
             run,
@@ -84,7 +94,10 @@ fn unit_of(run: u64, from: u64, to: u64, text: Text) -> Judged {
     }
 }
 
-fn read_text(alloc: Global, text: &[u8]) -> Result<Text, NoMemory> {
+// What a text is, by the log's own grammar.
+fn read_text(alloc: Global, text: &[u8]) -> Result<Text, NoMemory>
+    ensures { IfOk result (IsText text.now) }
+{
     let mut reader = LogReader::new(alloc, text, 0);
     match reader.next()? {
         NextUnit::Unit(effects) => read_rest(&mut reader, effects),
@@ -95,13 +108,17 @@ fn read_text(alloc: Global, text: &[u8]) -> Result<Text, NoMemory> {
 }
 
 // Reads on behind the first unit: a fault of form anywhere is told before that there are more.
-fn read_rest(reader: &mut LogReader, first: Effects) -> Result<Text, NoMemory> {
+fn read_rest(reader: &mut LogReader, first: Effects) -> Result<Text, NoMemory>
+    requires one { IsRead reader.old first true }
+    ensures { IfOk result (IsText reader.old.bytes) }
+{
     let mut alone = true;
     loop {
         match reader.next()? {
             NextUnit::Unit(_) => alone = false,
             NextUnit::End if alone => return Ok(Text::Unit(first)),
-            NextUnit::End | NextUnit::Tail(_) => return Ok(Text::Other),
+            NextUnit::End => return Ok(Text::Other),
+            NextUnit::Tail(_) => return Ok(Text::Other),
             NextUnit::Bad(_, why) => return Ok(Text::Bad(why)),
         }
     }
