@@ -5,3 +5,6 @@ pub mod Following
 pub mod Backlogs
 pub mod Replaying
 pub mod FrameWords
+pub mod Texts
+pub mod Judging
+pub mod Handing

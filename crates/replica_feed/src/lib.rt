@@ -13,16 +13,22 @@
 #![tactic(auto)]
 
 mod backlog;
+mod fault;
 mod frame;
 mod fronts;
 mod laws;
+mod lines;
+mod reader;
 mod replica;
 mod units;
+mod words;
 mod writing;
 
 pub use backlog::{Backlog, Since};
+pub use fault::FrameFault;
 pub use frame::Frame;
 pub use fronts::FrontReplayer;
 pub use laws::{backlog_stands, frames_read_back, replica_follows};
+pub use reader::{FrameReader, NextFrame};
 pub use replica::{Applied, Replica};
 pub use writing::{WriteStop, write_frame};

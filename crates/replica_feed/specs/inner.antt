@@ -1,0 +1,3 @@
+-- What only the crate itself speaks of.
+pub mod Texts
+pub mod Handing
