@@ -146,10 +146,11 @@ impl Lines {
         ensures whole { whole self.new ≡ whole self.old }
         ensures less { OnOk result (length self.new.waiting < length self.old.waiting) }
     {
+        let begin = self.handed - self.reader.rest();
         let waiting = &self.waiting.as_slice()[self.place..];
         let size = part_len(waiting);
-        self.begin = self.handed - self.reader.rest();
         self.reader.feed(&waiting[..size])?;
+        self.begin = begin;
         self.handed += size as u64;
         self.place += size;
         Ok(())
