@@ -1,5 +1,5 @@
 -- Words that are no frame. Serves the clauses of judge.
-use Rattle.std.proofs.Common.{◌≡◌, ◌≢◌, ℕ, ◌+◌, ◌<◌, ◌^◌, List, [], ◌∷◌, length, refl, sym, ap, ◌∙◌, arith, Some}
+use Rattle.std.proofs.Common.{◌≡◌, ◌≢◌, ℕ, ◌<◌, ◌^◌, List, [], ◌∷◌, length, refl, ap, ◌∙◌, arith, Some}
 use Rattle.std.specs.Fmt.{decimal}
 use Rattle.sequences.specs.Words.{word}
 use Rattle.byte_text.specs.Number.{u64_of}
@@ -10,7 +10,7 @@ use Rattle.replica_feed.specs.declared.fault.FrameFault.TheVariants as fault
 use Rattle.replica_feed.specs.declared.frame.Frame.{Frame}
 use Rattle.replica_feed.specs.declared.frame.Frame.TheVariants as frame
 use Rattle.replica_feed.specs.Frames.{full_word, unit_word}
-use Rattle.replica_feed.specs.Words.{AreFull, AreUnit, AreFrame, IsUnitText}
+use Rattle.replica_feed.specs.Words.{AreFull, AreUnit, AreFrame}
 use Rattle.replica_feed.specs.Reading.{HasBadText, IsFaultOf}
 
 -- as many words, of which the first is this one

@@ -1,17 +1,13 @@
 -- A stream that is handed on line by line has at most one request at a time. Serves the offsets of
 -- frames.
-use Rattle.std.proofs.Common.{◌≡◌, ◌≢◌, ◌⊎◌, ℕ, ◌+◌, List, [], ◌∷◌, ◌++◌, length, drop, refl, sym, ap, subst, ◌∙◌, append_assoc, append-nil, arith, inl, inr, Option, None, Some}
+use Rattle.std.proofs.Common.{◌≡◌, ◌≢◌, ◌⊎◌, ℕ, List, [], ◌∷◌, ◌++◌, length, refl, sym, ap, subst, ◌∙◌, append_assoc, append-nil, inl, inr, Option, None, Some}
 use Rattle.std.specs.Fmt.{decimal, signed_decimal}
-use Rattle.std.specs.List.{concat, flat_map}
-use Rattle.std.proofs.lemmas.List.{length-append, append_cancel_left}
-use Rattle.core_types.specs.declared.bad_request.BadRequest.{BadRequest}
+use Rattle.std.specs.List.{flat_map}
 use Rattle.resp_codec.specs.Marks.{lf, cr, crlf, star, marked, header}
-use Rattle.resp_codec.specs.Spelling.{bulk, multibulk, IsRequest, IsInline, IsEmptyArray, Spells, Skips, SkipsAll}
-use Rattle.resp_codec.specs.Stream.{Stream, Passes, Takes, SkipsOnly, Waits, Refuses, IsUnfinished}
+use Rattle.resp_codec.specs.Spelling.{bulk, IsInline, Spells, Skips}
+use Rattle.resp_codec.specs.Stream.{IsUnfinished}
 use Rattle.resp_codec.specs.Requests.{Span, IsSpan}
-use Rattle.resp_codec.proofs.OneReading.{fault_stays}
 use Rattle.resp_codec.proofs.Spans.{BeginsNone-unfinished}
-use Rattle.replica_feed.specs.Reading.{TakesAt, BreaksFrom}
 use Rattle.replica_feed.specs.inner.Placing.{HoldsOne, IsLineAhead}
 
 -- these bytes end with an LF

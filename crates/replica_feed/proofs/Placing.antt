@@ -4,10 +4,10 @@ use Rattle.std.specs.List.{concat}
 use Rattle.std.proofs.lemmas.List.{length-append, length-drop, length-take-le, take-append-drop, drop-drop, drop_all}
 use Rattle.std.proofs.lemmas.List.Folds.{concat-append}
 use Rattle.core_types.specs.declared.bad_request.BadRequest.{BadRequest}
-use Rattle.resp_codec.specs.Spelling.{Spells, Skips, SkipsAll}
+use Rattle.resp_codec.specs.Spelling.{Spells, SkipsAll}
 use Rattle.resp_codec.specs.Stream.{Stream, Passes, Takes, SkipsOnly, Waits, Refuses, IsUnfinished}
 use Rattle.resp_codec.proofs.OneReading.{fault_stays}
-use Rattle.resp_codec.proofs.Passing.{SkipsOnly-join, Waits-join, Refuses-join}
+use Rattle.resp_codec.proofs.Passing.{Waits-join, Refuses-join}
 use Rattle.replica_feed.specs.Reading.{TakesAt, BreaksFrom}
 use Rattle.replica_feed.specs.declared.requests.Came.{Came}
 use Rattle.replica_feed.specs.declared.requests.Came.TheVariants as came

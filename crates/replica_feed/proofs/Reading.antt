@@ -1,12 +1,11 @@
 -- What the text of a Unit is found to be. Serves the clauses of read_text and read_rest.
-use Rattle.std.proofs.Common.{◌≡◌, ◌≢◌, ℕ, ◌+◌, ◌-◌, ◌<◌, ◌≤◌, Bool, true, false, List, [], ◌∷◌, ◌++◌, length, drop, refl, sym, ap, subst, ◌∙◌, append_assoc, append-nil, arith, inl, inr}
-use Rattle.std.specs.List.{AllByRecursion, flat_map}
+use Rattle.std.proofs.Common.{◌≡◌, ◌≢◌, ℕ, ◌+◌, ◌-◌, ◌<◌, Bool, true, false, List, [], ◌∷◌, ◌++◌, length, drop, refl, sym, ap, ◌∙◌, append_assoc, append-nil, arith, inl, inr}
+use Rattle.std.specs.List.{AllByRecursion}
 use Rattle.std.proofs.lemmas.Bool.{false≢true}
-use Rattle.std.proofs.lemmas.List.{length-append, length-drop, drop_all}
+use Rattle.std.proofs.lemmas.List.{length-append, drop_all}
 use Rattle.core_types.specs.declared.effect.Effect.{Effect}
-use Rattle.effect_log.specs.Log.{Unit, unit_bytes, units_bytes, IsUnit, IsTorn, HoldsUnits, BreaksAt}
-use Rattle.effect_log.specs.Reading.{Log, ahead, TakesUnit, IsTail, IsFaulty}
-use Rattle.effect_log.specs.Replay.{effects_of}
+use Rattle.effect_log.specs.Log.{Unit, unit_bytes, units_bytes, IsUnit, IsTorn, HoldsUnits}
+use Rattle.effect_log.specs.Reading.{Log, ahead, TakesUnit, IsFaulty}
 use Rattle.effect_log.specs.declared.reason.Reason.{Reason}
 use Rattle.effect_log.proofs.Judging.{IsJudged-one}
 use Rattle.effect_log.proofs.Judging.Judged.{Nothing, Torn, Whole}

@@ -1,11 +1,11 @@
 -- What a reader of frames tells of a request. Serves the clauses of FrameReader::next.
-use Rattle.std.proofs.Common.{◌≡◌, ℕ, List, refl, subst, sym, None, Some, Option}
+use Rattle.std.proofs.Common.{◌≡◌, ℕ, List, refl, subst, None, Some, Option}
 use Rattle.resp_codec.specs.Stream.{Stream}
 use Rattle.replica_feed.specs.declared.fault.FrameFault.{FrameFault}
 use Rattle.replica_feed.specs.declared.fault.FrameFault.TheVariants as fault
 use Rattle.replica_feed.specs.declared.frame.Frame.{Frame}
 use Rattle.replica_feed.specs.Words.{AreFrame}
-use Rattle.replica_feed.specs.Reading.{Feed, TakesAt, TakesFrame, ComesNext, IsFaultOf, EndsAt}
+use Rattle.replica_feed.specs.Reading.{Feed, TakesFrame, ComesNext, IsFaultOf, EndsAt}
 
 abbrev pub feed_of : Stream → Option (ℕ × List (List ℕ)) → Option (ℕ × FrameFault) → Feed
 feed_of stream held bad = record { stream = stream; held = held; bad = bad }

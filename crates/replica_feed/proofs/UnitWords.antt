@@ -16,9 +16,9 @@ use Rattle.replica_feed.specs.declared.words.Text.{Text}
 use Rattle.replica_feed.specs.declared.words.Text.TheVariants as is
 use Rattle.replica_feed.specs.declared.words.Judged.TheVariants as judged
 use Rattle.replica_feed.specs.Frames.{unit_word}
-use Rattle.replica_feed.specs.Words.{AreFull, AreUnit, AreFrame, IsUnitText}
+use Rattle.replica_feed.specs.Words.{AreFrame, IsUnitText}
 use Rattle.replica_feed.specs.Reading.{HasBadText, IsFaultOf, IsJudged}
-use Rattle.replica_feed.specs.inner.Texts.{Breaks, IsOther, IsText, unit_of}
+use Rattle.replica_feed.specs.inner.Texts.{Breaks, IsText, unit_of}
 use Rattle.replica_feed.proofs.Judging.{Begin, unit_words}
 
 -- the words of a Unit with these numbers

@@ -1,6 +1,5 @@
 -- A reader of requests that knows where each begins.
 use Rattle.std.specs.Prelude.{◌≡◌, ◌<◌, ◌≤◌, ◌+◌, ◌^◌, ◌++◌, ℕ, List, [], ◌∷◌, length, drop, Option, None, Some}
-use Rattle.core_types.specs.declared.bad_request.BadRequest.{BadRequest}
 use Rattle.resp_codec.specs.Marks.{lf}
 use Rattle.resp_codec.specs.Stream.{Stream, SkipsOnly, Waits, IsUnfinished}
 use Rattle.resp_codec.specs.Requests.{Span, IsSpan}

@@ -1,5 +1,5 @@
 -- Serves the clause of judge_full.
-use Rattle.std.proofs.Common.{sym, ap, ◌∙◌}
+use Rattle.std.proofs.Common.{sym, ◌∙◌}
 use Rattle.replica_feed.proofs.Judging.{are_full, full_without, small}
 use Rattle.replica_feed.proofs.words.judge_full.Goals.{in_default-via-in-Some+in_default, in_default-via-in_default}
 use Rattle.replica_feed.proofs.words.judge_full.Goals as goal

@@ -1,6 +1,6 @@
 -- Serves the clauses of next.
-use Rattle.std.proofs.Common.{◌≡◌, refl, sym, subst, ◌∙◌, None, Some}
-use Rattle.replica_feed.specs.inner.Placing.{Comes, seen}
+use Rattle.std.proofs.Common.{refl, sym, ◌∙◌, None, Some}
+use Rattle.replica_feed.specs.inner.Placing.{seen}
 use Rattle.replica_feed.proofs.Telling.{taken_seen, bad_seen, feed_of}
 use Rattle.replica_feed.proofs.reader.FrameReader.next.Goals as goal
 
