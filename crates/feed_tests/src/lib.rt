@@ -11,3 +11,5 @@ mod frames;
 mod replicas;
 #[cfg(test)]
 mod sets;
+#[cfg(test)]
+mod streams;

@@ -5,3 +5,10 @@ pub mod Following
 pub mod Backlogs
 pub mod Replaying
 pub mod FrameWords
+pub mod OneAtATime
+pub mod Placing
+pub mod Judging
+pub mod Lines
+pub mod Reading
+pub mod UnitWords
+pub mod Telling

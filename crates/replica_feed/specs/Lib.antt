@@ -3,3 +3,5 @@ pub mod Words
 pub mod Units
 pub mod Runs
 pub mod Applying
+pub mod Reading
+pub mod inner

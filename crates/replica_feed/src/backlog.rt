@@ -49,7 +49,8 @@ impl Model for Backlog {
 }
 
 impl Backlog {
-    /// A backlog of a run, of which so many events have passed. Takes no memory.
+    /// A backlog of a run of which `first` events have passed. Nothing is kept yet, and what comes
+    /// will be kept from that number on. Takes no memory.
     pub fn new(alloc: Global, run: u64, first: u64) -> Backlog
         ensures empty { result ≡ kept_from run first }
     {

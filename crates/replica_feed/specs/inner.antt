@@ -1,0 +1,3 @@
+-- What the inner functions' clauses cite.
+pub mod Placing
+pub mod Texts
