@@ -34,46 +34,47 @@ fn stays<R: Wait>(rt: &R, lock: &ContextLock<Tape>, pass: Pass, client: u64, cou
     pass
 }
 
-// Two passes of a lock.
-struct Two {
+// Pair passes of a lock.
+#[derive(Drop)]
+struct Pair {
     a: Pass,
     b: Pass,
     ghost one_lock: { b.lock ≡ a.lock },
 }
 
-// Two threads, and their passes joined.
-fn two<R: Threads + Wait + Sync>(
+// Pair threads, and their passes joined.
+fn two_threads<R: Threads + Wait + Sync>(
     rt: &R,
     lock: &ContextLock<Tape>,
-    two: Two,
+    pair: Pair,
     client: u64,
     count: u64,
 ) -> Pass
-    requires lock { two.a.lock ≡ lock_id lock.now }
+    requires lock { pair.a.lock ≡ lock_id lock.now }
     ensures lock { result.lock ≡ lock_id lock.now }
-    ensures parts { result.parts ≡ two.a.parts + two.b.parts }
+    ensures parts { result.parts ≡ pair.a.parts + pair.b.parts }
 {
-    let Two { a, b } = two;
+    let Pair { a, b } = pair;
     let (a, b) = join(
         rt,
         move || -> Pass
             requires { a.lock ≡ lock_id lock.now }
-            ensures { (result.lock ≡ lock_id lock.entry.now) × (result.parts ≡ a.entry.parts) }
+            ensures { (result.lock ≡ lock_id lock.entry.now) × (result.parts ≡ a.parts) }
         { stays(rt, lock, a, client, count) },
         move || -> Pass
             requires { b.lock ≡ lock_id lock.now }
-            ensures { (result.lock ≡ lock_id lock.entry.now) × (result.parts ≡ b.entry.parts) }
+            ensures { (result.lock ≡ lock_id lock.entry.now) × (result.parts ≡ b.parts) }
         { stays(rt, lock, b, client ^ 1, count) },
     );
     lock.join(a, b)
 }
 
 // Four threads.
-fn four<R: Threads + Wait + Sync>(
+fn four_threads<R: Threads + Wait + Sync>(
     rt: &R,
     lock: &ContextLock<Tape>,
-    x: Two,
-    y: Two,
+    x: Pair,
+    y: Pair,
     client: u64,
     count: u64,
 ) -> Pass
@@ -86,19 +87,19 @@ fn four<R: Threads + Wait + Sync>(
         move || -> Pass
             requires { x.a.lock ≡ lock_id lock.now }
             ensures { (result.lock ≡ lock_id lock.entry.now)
-                × (result.parts ≡ x.entry.a.parts + x.entry.b.parts) }
-        { two(rt, lock, x, client, count) },
+                × (result.parts ≡ x.a.parts + x.b.parts) }
+        { two_threads(rt, lock, x, client, count) },
         move || -> Pass
             requires { y.a.lock ≡ lock_id lock.now }
             ensures { (result.lock ≡ lock_id lock.entry.now)
-                × (result.parts ≡ y.entry.a.parts + y.entry.b.parts) }
-        { two(rt, lock, y, client ^ 2, count) },
+                × (result.parts ≡ y.a.parts + y.b.parts) }
+        { two_threads(rt, lock, y, client ^ 2, count) },
     );
     lock.join(a, b)
 }
 
-// Two passes of one part each, and the rest.
-fn cut_two(lock: &ContextLock<Tape>, pass: Pass) -> (Pass, Two)
+// Pair passes of one part each, and the rest.
+fn cut_pair(lock: &ContextLock<Tape>, pass: Pass) -> (Pass, Pair)
     requires lock { pass.lock ≡ lock_id lock.now }
     requires parts { 3 ≤ pass.parts }
     ensures locks { (result.0.lock ≡ lock_id lock.now) × (result.1.a.lock ≡ lock_id lock.now) }
@@ -107,34 +108,39 @@ fn cut_two(lock: &ContextLock<Tape>, pass: Pass) -> (Pass, Two)
 {
     let (pass, a) = lock.split(pass);
     let (pass, b) = lock.split(pass);
-    (pass, Two { a, b })
+    (pass, Pair { a, b })
 }
 
 // Eight threads.
-fn eight<R: Threads + Wait + Sync>(rt: &R, lock: &ContextLock<Tape>, pass: Pass, count: u64) -> Pass
+fn eight_threads<R: Threads + Wait + Sync>(
+    rt: &R,
+    lock: &ContextLock<Tape>,
+    pass: Pass,
+    count: u64,
+) -> Pass
     requires lock { pass.lock ≡ lock_id lock.now }
     requires parts { 9 ≤ pass.parts }
     ensures lock { result.lock ≡ lock_id lock.now }
     ensures parts { result.parts ≡ pass.parts }
 {
-    let (pass, w) = cut_two(lock, pass);
-    let (pass, x) = cut_two(lock, pass);
-    let (pass, y) = cut_two(lock, pass);
-    let (pass, z) = cut_two(lock, pass);
+    let (pass, w) = cut_pair(lock, pass);
+    let (pass, x) = cut_pair(lock, pass);
+    let (pass, y) = cut_pair(lock, pass);
+    let (pass, z) = cut_pair(lock, pass);
     let (a, b) = join(
         rt,
         move || -> Pass
             requires { (w.a.lock ≡ lock_id lock.now) × (x.a.lock ≡ lock_id lock.now) }
             ensures { (result.lock ≡ lock_id lock.entry.now)
-                × (result.parts ≡ (w.entry.a.parts + w.entry.b.parts)
-                + (x.entry.a.parts + x.entry.b.parts)) }
-        { four(rt, lock, w, x, 0, count) },
+                × (result.parts ≡ (w.a.parts + w.b.parts)
+                + (x.a.parts + x.b.parts)) }
+        { four_threads(rt, lock, w, x, 0, count) },
         move || -> Pass
             requires { (y.a.lock ≡ lock_id lock.now) × (z.a.lock ≡ lock_id lock.now) }
             ensures { (result.lock ≡ lock_id lock.entry.now)
-                × (result.parts ≡ (y.entry.a.parts + y.entry.b.parts)
-                + (z.entry.a.parts + z.entry.b.parts)) }
-        { four(rt, lock, y, z, 4, count) },
+                × (result.parts ≡ (y.a.parts + y.b.parts)
+                + (z.a.parts + z.b.parts)) }
+        { four_threads(rt, lock, y, z, 4, count) },
     );
     let ones = lock.join(a, b);
     lock.join(pass, ones)
@@ -147,7 +153,7 @@ fn counted<R: Threads + Wait + Sync>(rt: &R, alloc: Global, count: u64) -> Optio
         events: Sequence::new(alloc),
     };
     let (lock, pass) = ContextLock::new(alloc, tape).ok()?;
-    let pass = eight(rt, &lock, pass, count);
+    let pass = eight_threads(rt, &lock, pass, count);
     let tape = lock.close(pass);
     let full = (0..8u64)
         .filter(|client| of(&tape, *client) == count)
@@ -157,7 +163,7 @@ fn counted<R: Threads + Wait + Sync>(rt: &R, alloc: Global, count: u64) -> Optio
 
 // Each of eight threads adds an event in each of its stays, and none is lost or made twice.
 #[test]
-fn eight_threads(rt: HostRuntime) -> Result<(), Fail> {
+fn each_stay_adds_an_event(rt: HostRuntime) -> Result<(), Fail> {
     assert!(rt; counted(&rt, rt.alloc(), 100_000) == Some((8, 800_000)));
     Ok(())
 }
