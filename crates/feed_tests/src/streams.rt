@@ -1,3 +1,5 @@
+ghost use Rattle.std.specs.Prelude.{◌<◌};
+
 use core_types::{Blob, NoMemory};
 use replica_feed::{Frame, FrameReader, NextFrame};
 use std::alloc::Global;
@@ -44,7 +46,9 @@ fn say_next(alloc: Global, reader: &mut FrameReader, text: &mut Blob) -> Result<
 }
 
 // All that a stream says, in pieces of a size.
-fn reading(alloc: Global, stream: &[u8], size: usize) -> Result<Blob, NoMemory> {
+fn reading(alloc: Global, stream: &[u8], size: usize) -> Result<Blob, NoMemory>
+    requires { 0 < size }
+{
     let mut reader = FrameReader::new(alloc);
     let mut text = Blob::new(alloc);
     for piece in stream.chunks(size) {

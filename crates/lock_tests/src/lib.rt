@@ -12,7 +12,6 @@ mod bells;
 mod shared;
 #[cfg(test)]
 mod stays;
-#[cfg(test)]
-mod tape;
+pub mod tape;
 #[cfg(test)]
 mod turns;
