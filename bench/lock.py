@@ -191,7 +191,8 @@ def make(top):
     rows = [row for row in (ROOT / "crates.txt").read_text().splitlines() if row.split(":")[0] in CRATES]
     (top / "crates.txt").write_text("\n".join([*rows, "lock_bench: core_types context_lock anyhow", ""]))
     for name in CRATES:
-        shutil.copytree(ROOT / "crates" / name, top / "crates" / name, ignore=shutil.ignore_patterns("must-fail", "out"))
+        left = shutil.ignore_patterns("must-fail", "out")
+        shutil.copytree(ROOT / "crates" / name, top / "crates" / name, ignore=left)
     crate = top / "crates" / "lock_bench"
     for path, text in (
         ("src/main.rt", MAIN),
@@ -228,8 +229,8 @@ def main():
                 ours = seconds(program, "lock", *words)
                 theirs = seconds(program, *words)
                 each = 1e9 / (threads * count)
-                print(f"{threads} threads, {count:,} stays each: {ours * each:.0f} ns a stay, Mutex {theirs * each:.0f} ns, "
-                      f"ratio {ours / theirs:.2f}", flush=True)
+                print(f"{threads} threads, {count:,} stays each: {ours * each:.0f} ns a stay, "
+                      f"Mutex {theirs * each:.0f} ns, ratio {ours / theirs:.2f}", flush=True)
 
 
 if __name__ == "__main__":
