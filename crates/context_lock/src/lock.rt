@@ -22,8 +22,8 @@ const SPINS: u32 = 300;
 /// A state that threads share. Who has a pass may enter, one at a time.
 pub struct ContextLock<S: Historic> {
     pub(crate) table: Table<Option<S>, View, u64, Turns, Global>,
-    // 1 where a thread sleeps until the turn is free, or is about to; else 0.
-    sleeping: AtomicU64,
+    // How many threads park until the turn is free, or are about to.
+    waiting: AtomicU64,
     bells: Bells,
     ghost sized: { (table.shared.table_id.words ≡ 2) × (table.shared.table_id.slots ≡ 1) },
 }
@@ -69,9 +69,10 @@ impl<S: Historic> ContextLock<S> {
         slots.push_reserved(Some(state));
         match Table::new(alloc, &[0, opened], slots, &opened) {
             Ok((table, seat)) => {
+                let waiting = AtomicU64::new(0);
                 let lock = ContextLock {
                     table,
-                    sleeping: AtomicU64::new(0),
+                    waiting,
                     bells,
                 };
                 Ok((lock, Pass::of(seat)))
@@ -111,19 +112,21 @@ impl<S: Historic> ContextLock<S> {
         Err(pass)
     }
 
-    // Tries, and parks where the turn is not free, until it has the turn. The thread says that it
-    // sleeps before each try. So who gives the turn back either finds that said and wakes one, or
-    // gave the turn back before the try. A thread that was woken, and has the turn, leaves it said:
-    // others may sleep, and the next of them is woken when it leaves.
+    // Tries, and parks where the turn is not free, until it has the turn. The thread is counted
+    // before it tries. So who gives the turn back either finds it counted and wakes one, or gave
+    // the turn back before the try.
     fn park<R: Wait>(&self, rt: &R, pass: Pass) -> Inside<'_, S>
         requires lock { pass.lock ≡ lock_id self.now }
         ensures comes { Comes S.history S.shows pass result }
     {
+        self.waiting.fetch_add(1, SeqCst);
         let mut pass = pass;
         for _ in rt.forever() {
-            self.sleeping.store(1, SeqCst);
             pass = match self.try_enter(pass) {
-                Ok(inside) => return inside,
+                Ok(inside) => {
+                    self.waiting.fetch_sub(1, SeqCst);
+                    return inside;
+                }
                 Err(pass) => pass,
             };
             self.table.shared.park(rt, 0, 1);
@@ -144,10 +147,9 @@ impl<S: Historic> ContextLock<S> {
         }
     }
 
-    // Wakes one thread that sleeps until the turn is free, if there is one. No other is woken until
-    // that one, or a thread that came to sleep, says so again.
+    // Wakes one thread that parks until the turn is free, if there is one.
     pub(crate) fn wake(&self) {
-        if self.sleeping.load(SeqCst) != 0 && self.sleeping.swap(0, SeqCst) != 0 {
+        if self.waiting.load(SeqCst) != 0 {
             self.table.shared.wake_one(0);
         }
     }
@@ -198,7 +200,7 @@ impl<S: Historic> ContextLock<S> {
     {
         let ContextLock {
             table,
-            sleeping: _,
+            waiting: _,
             bells: _,
         } = self;
         let mut closed = table.close_with(pass.into_seat::<S>());
